@@ -1,0 +1,12 @@
+use borrow.Author.Needs.{needs}
+use Rattle.commands.proofs.good_single.Statement.{statement}
+use Rattle.commands.proofs.good_single.Tie as tie
+
+good-pulse-requires : tie.Need-good-pulse-requires
+good-pulse-requires c κs = search needs
+
+returns : tie.Need-returns
+returns c = cc
+
+pub good-single-spec : {M : Type 1} → statement M
+good-single-spec = tie.close (tie.spec good-pulse-requires returns)

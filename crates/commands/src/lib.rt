@@ -1,0 +1,152 @@
+// The four commands (document 01, "The four frames"): their variables, good values and Check; the reply byte.
+pub mod answers;
+pub mod idents;
+pub mod sizes;
+
+ghost use mathlib.Core.Path.{_≡_};
+ghost use Prim.Native.Nat.{_%_, _<_};
+ghost use Rattle.commands.specs.Ranges.{within, goodPulse, goodCount};
+ghost use Rattle.commands.specs.Commands.{Command.init, Command.update, Command.single, goodSetting, goodEntry, goodEntries, good, settingSum, sumAll, check};
+ghost use Rattle.commands.specs.Reply.{reply};
+
+// What an Init sets: N_Factor, Channel_Stim, Channel_Lf, Group_Time, Main_Time.
+#[repr(C)]
+pub struct Init {
+    pub factor: u8,
+    pub stim: u8,
+    pub lf: u8,
+    pub group: u8,
+    pub main: u16,
+}
+
+// What an Update sets one channel to.
+#[repr(C)]
+pub struct Setting {
+    pub mode: u8,
+    pub width: u16,
+    pub current: u8,
+}
+
+// What a Single asks for; its channel is Channel_Number, 0 to 7.
+#[repr(C)]
+pub struct Single {
+    pub channel: u8,
+    pub width: u16,
+    pub current: u8,
+}
+
+// ---- good values
+
+fn is_within(low: u16, x: u16, high: u16) -> bool
+    ensures { λ r. ⌜ r ≡ within low x high ⌝ }
+{
+    (low <= x) & (x <= high)
+}
+
+// The ranges of Width and Current, for Update and Single alike.
+fn good_pulse(width: u16, current: u8) -> bool
+    ensures { λ r. ⌜ r ≡ goodPulse width current ⌝ }
+{
+    ((width == 0) | is_within(10, width, 500)) & (current <= 127)
+}
+
+pub fn good_init(v: Init) -> bool
+    ensures { λ r. ⌜ r ≡ good (init v) ⌝ }
+{
+    (v.factor <= 7) & (v.stim != 0) & is_within(3, v.group as u16, 29) & is_within(4, v.main, 2045)
+}
+
+fn good_setting(v: Setting) -> bool
+    ensures { λ r. ⌜ r ≡ goodSetting v ⌝ }
+{
+    (v.mode <= 2) & good_pulse(v.width, v.current)
+}
+
+// A listed entry is good, any other is zero.
+fn good_entry(v: Setting, listed: bool) -> bool
+    ensures { λ r. ⌜ r ≡ goodEntry v listed ⌝ }
+{
+    if listed {
+        good_setting(v)
+    } else {
+        setting_sum(v) == 0
+    }
+}
+
+fn good_entries(entries: [Setting; 8], count: usize) -> bool
+    ensures { λ r. ⌜ r ≡ goodEntries entries count ⌝ }
+{
+    let mut i = 0;
+    while i < 8 {
+        if good_entry(entries[i], i < count) {
+            i += 1;
+        } else {
+            return false;
+        }
+    }
+    true
+}
+
+// The number of listed channels is 1 to 8.
+pub fn good_count(count: usize) -> bool
+    ensures { λ r. ⌜ r ≡ goodCount count ⌝ }
+{
+    (1 <= count) & (count <= 8)
+}
+
+pub fn good_update(count: usize, entries: [Setting; 8]) -> bool
+    ensures { λ r. ⌜ r ≡ good (update count entries) ⌝ }
+{
+    good_count(count) & good_entries(entries, count)
+}
+
+pub fn good_single(v: Single) -> bool
+    ensures { λ r. ⌜ r ≡ good (single v) ⌝ }
+{
+    (v.channel <= 7) & good_pulse(v.width, v.current)
+}
+
+// ---- Check
+
+pub fn check_init(v: Init) -> u64
+    ensures { λ r. ⌜ r ≡ check (init v) ⌝ }
+{
+    (v.factor as u64 + v.stim as u64 + v.lf as u64 + v.group as u64 + v.main as u64) % 8
+}
+
+fn setting_sum(v: Setting) -> u64
+    ensures { λ r. ⌜ (r ≡ settingSum v) × (r < 70000) ⌝ }
+{
+    v.mode as u64 + v.width as u64 + v.current as u64
+}
+
+// Summed over all its channels in wide numbers, and reduced at the end.
+pub fn check_update(entries: [Setting; 8]) -> u64
+    ensures { λ r. ⌜ r ≡ sumAll entries % 32 ⌝ }
+{
+    let mut sum: u64 = 0;
+    let mut i = 0;
+    while i < 8 {
+        sum += setting_sum(entries[i]);
+        i += 1;
+    }
+    sum % 32
+}
+
+pub fn check_single(v: Single) -> u64
+    ensures { λ r. ⌜ r ≡ check (single v) ⌝ }
+{
+    (v.channel as u64 + v.width as u64 + v.current as u64) % 32
+}
+
+// ---- the reply
+
+// The reply byte to a decided command of this Ident, of which the two lowest bits count.
+pub fn reply_to(ident: u8, answer: u8) -> u8
+    ensures { λ r. ⌜ r ≡ reply ident answer ⌝ }
+{
+    if answer == answers::DONE {
+        return ident % 4 * 64 + 1;
+    }
+    ident % 4 * 64
+}
