@@ -1,0 +1,4 @@
+pub mod Shape
+pub mod Idents
+pub mod Rows
+pub mod Judging

@@ -1,0 +1,32 @@
+use mathlib.Core.Path.{refl}
+use native.Mathlib.Omega.{arith}
+use borrow.Author.Needs.{needs}
+use Rattle.commands.specs.Commands.{Command.single}
+use Rattle.writers.proofs.Outcomes.{wrote-bad, wrote-short, wrote-done}
+use Rattle.writers.proofs.write_single.Statement.{statement}
+use Rattle.writers.proofs.write_single.Tie as tie
+
+good-single-requires : tie.Need-good-single-requires
+good-single-requires c κs = search needs
+
+returns : tie.Need-returns
+returns c = let a = c .before .before .before .before .args in wrote-short (single (a .v)) (a .out .now) (cc) (omega arith)
+
+put-single-requires : tie.Need-put-single-requires
+put-single-requires c κs = (cc, omega arith)
+
+same-length : tie.Need-same-length
+same-length c = search needs
+
+returns-2 : tie.Need-returns-2
+returns-2 c =
+    let a = c .before .before .before .before .before .before .before .before .args in
+    wrote-done (single (a .v)) (a .out .now) _ (cc) refl (c .before .before .before .before .if2 .left) (c .before .before .put-single .ensures)
+
+returns-3 : tie.Need-returns-3
+returns-3 c = let a = c .before .before .before .args in wrote-bad (single (a .v)) (a .out .now) (cc)
+
+pub write-single-spec : {M : Type 1} → statement M
+write-single-spec =
+    tie.close
+    (tie.spec good-single-requires returns put-single-requires same-length returns-2 returns-3)
