@@ -1,0 +1,125 @@
+-- Document 01, "Sixteen to prove": the cases as one list under a single claim. Here stand 1 to 9, as they speak of frames.
+use Prim.Native.Nat.{ℕ, _-_}
+use mathlib.Core.Bool.{Bool, true, false, cond, _&&_}
+use mathlib.Core.Path.{_≡_}
+use mathlib.Core.List.{List, [], _∷_, _++_}
+use lib.Dec.{eqb}
+use lib.ListN.{replicate, length}
+use Rattle.commands.specs.declared.Setting.{Setting}
+use Rattle.commands.specs.Commands.{Command, Command.init, Command.update, Command.stop, Command.single, noSetting, check}
+use Rattle.commands.specs.Reply.{reply}
+use Rattle.frames.specs.declared.Fields.{Fields}
+use Rattle.frames.specs.declared.Read.{Read}
+use Rattle.frames.specs.Bytes.{frame}
+use Rattle.frames.specs.Reader.{found, refused, readFrame}
+use Rattle.writers.specs.Writer.{wrote, written}
+
+-- a case: its number in document 01, and what two sides give, written as numbers
+pub record Case : Type 0 where
+  pub number : ℕ
+  pub got : List ℕ
+  pub wanted : List ℕ
+
+abbrev pub case : ℕ → List ℕ → List ℕ → Case
+case number got wanted = record { number = number; got = got; wanted = wanted }
+
+-- ---- reports as numbers
+
+abbrev pub settingNumbers : List Setting → List ℕ
+settingNumbers [] = []
+settingNumbers (v ∷ vs) = v .mode ∷ v .width ∷ v .current ∷ settingNumbers vs
+
+abbrev pub fieldNumbers : Fields → List ℕ
+fieldNumbers f =
+    f .ident ∷ f .init .factor ∷ f .init .stim ∷ f .init .lf ∷ f .init .group ∷ f .init .main
+    ∷ f .single .channel ∷ f .single .width ∷ f .single .current
+    ∷ settingNumbers (f .entries)
+
+abbrev pub numbers : Read → List ℕ
+numbers r = r .answer ∷ r .used ∷ fieldNumbers (r .fields)
+
+-- what the reader reports of a slice, for a list of two channels
+abbrev pub reads : List ℕ → List ℕ
+reads s = numbers (readFrame s 2)
+
+-- what a writer reports and leaves of an output of twelve zeros
+abbrev pub writes : Command → List ℕ
+writes c = let out : List ℕ = replicate 12 0 in wrote c out .answer ∷ wrote c out .used ∷ written c out
+
+-- these bytes written, and no other; nothing written, with this answer
+abbrev pub bytes : List ℕ → List ℕ
+bytes s = 0 ∷ length s ∷ s ++ replicate (12 - length s) 0
+
+abbrev pub nothing : ℕ → List ℕ
+nothing answer = answer ∷ 0 ∷ replicate 12 0
+
+-- ---- the commands of the cases
+
+abbrev pub singleOf : ℕ → ℕ → ℕ → Command
+singleOf channel width current = single (record { channel = channel; width = width; current = current })
+
+-- channels 1 and 3
+abbrev pub initOf : ℕ → Command
+initOf main = init (record { factor = 0; stim = 5; lf = 0; group = 3; main = main })
+
+abbrev pub setTo : ℕ → ℕ → ℕ → Setting
+setTo mode width current = record { mode = mode; width = width; current = current }
+
+abbrev pub updateOf : Setting → Setting → Command
+updateOf v w = update 2 (v ∷ w ∷ replicate 6 noSetting)
+
+-- the frame of a command reads as it, and a writer writes it
+abbrev pub bothWays : ℕ → Command → List ℕ → List Case
+bothWays n c s = case n (writes c) (bytes s) ∷ case n (reads s) (numbers (found c)) ∷ []
+
+-- a command is refused with 4, read and written
+abbrev pub notGood : ℕ → Command → List Case
+notGood n c = case n (writes c) (nothing 4) ∷ case n (reads (frame c)) (numbers (refused 4)) ∷ []
+
+-- a command is good, read and written
+abbrev pub isGood : ℕ → Command → List Case
+isGood n c = bothWays n c (frame c)
+
+-- ---- the list
+
+unfoldable pub cases : List Case
+cases =
+    -- 1. Single, channel 3, 200 µs, 120 mA: E2 21 48 78, reply C1
+    bothWays 1 (singleOf 2 200 120) (0xE2 ∷ 0x21 ∷ 0x48 ∷ 0x78 ∷ [])
+    ++ case 1 (reply 3 0 ∷ []) (0xC1 ∷ [])
+    -- 2. Single, channel 6, 221, 55: F9 51 5D 37; the check is 25
+    ∷ bothWays 2 (singleOf 5 221 55) (0xF9 ∷ 0x51 ∷ 0x5D ∷ 0x37 ∷ [])
+    ++ case 2 (check (singleOf 5 221 55) ∷ []) (25 ∷ [])
+    -- 3. E2 2D 48 78 reads as case 1
+    ∷ case 3 (reads (0xE2 ∷ 0x2D ∷ 0x48 ∷ 0x78 ∷ [])) (reads (0xE2 ∷ 0x21 ∷ 0x48 ∷ 0x78 ∷ []))
+    -- 4. E3 21 48 78: 3, reply C0
+    ∷ case 4 (reads (0xE3 ∷ 0x21 ∷ 0x48 ∷ 0x78 ∷ [])) (numbers (refused 3))
+    ∷ case 4 (reply 3 3 ∷ []) (0xC0 ∷ [])
+    -- 5. Init, N 0, channels 1 and 3, Lf 0, Group 3, Main 18: 88 01 20 00 30 12
+    ∷ bothWays 5 (initOf 18) (0x88 ∷ 0x01 ∷ 0x20 ∷ 0x00 ∷ 0x30 ∷ 0x12 ∷ [])
+    -- 6. Update, 1: Mode 0, 200, 40; 3: Mode 1, 300, 30: BB 01 48 28 22 2C 1E
+    ++ bothWays 6 (updateOf (setTo 0 200 40) (setTo 1 300 30)) (0xBB ∷ 0x01 ∷ 0x48 ∷ 0x28 ∷ 0x22 ∷ 0x2C ∷ 0x1E ∷ [])
+    -- 7. Stop: C0
+    ++ bothWays 7 stop (0xC0 ∷ [])
+    -- 8. Main_Time 2045 good, 2046 answer 4
+    ++ isGood 8 (initOf 2045) ++ notGood 8 (initOf 2046)
+    -- 9. Width 9 answer 4, 10 good, 500 good, 501 answer 4
+    ++ notGood 9 (singleOf 0 9 1) ++ isGood 9 (singleOf 0 10 1) ++ isGood 9 (singleOf 0 500 1) ++ notGood 9 (singleOf 0 501 1)
+    ++ notGood 9 (updateOf (setTo 0 9 1) noSetting) ++ isGood 9 (updateOf (setTo 0 10 1) noSetting)
+    ++ isGood 9 (updateOf (setTo 0 500 1) noSetting) ++ notGood 9 (updateOf (setTo 0 501 1) noSetting)
+
+-- ---- the claim
+
+abbrev pub same : List ℕ → List ℕ → Bool
+same [] [] = true
+same [] (y ∷ ys) = false
+same (x ∷ xs) [] = false
+same (x ∷ xs) (y ∷ ys) = eqb x y && same xs ys
+
+-- the numbers of the cases whose sides differ
+abbrev pub failing : List Case → List ℕ
+failing [] = []
+failing (c ∷ cs) = cond (same (c .got) (c .wanted)) (failing cs) (c .number ∷ failing cs)
+
+abbrev pub Claim : Type 0
+Claim = failing cases ≡ []

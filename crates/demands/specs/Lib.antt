@@ -1,0 +1,3 @@
+pub mod DontCare
+pub mod RoundTrips
+pub mod Cases

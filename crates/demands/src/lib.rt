@@ -1,0 +1,1 @@
+// The demands: definitions and theorems alone, in specs/ and proofs/. No function stands here.
