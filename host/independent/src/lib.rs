@@ -1,0 +1,18 @@
+//! A second codec of the four ScienceMode command frames, written from the papers alone and
+//! sharing nothing with the library that it is compared with.
+//!
+//! Source 003 is "ScienceMode - RehaStim Stimulation Device", 21st September 2009; document 01 is
+//! the specification of this repository, which rules where source 003 leaves a choice.
+//!
+//! It works on lists of bits: `tables` has the papers' tables as data, `walk` goes along them bit
+//! by bit, and `codec` puts the tests of document 01 in their order.
+
+mod codec;
+mod command;
+mod good;
+mod tables;
+mod walk;
+
+pub use codec::{check, compose, free_bits, read, reply, write, Frame};
+pub use command::{Command, Init, Setting, Single};
+pub use tables::{Bit, Kind, Layout, Row, Variable, LAYOUTS};

@@ -1,0 +1,17 @@
+//! Safe calls to the proved reader and writer of ScienceMode frames (document 01, "The four
+//! frames").
+//!
+//! `read`, `write` and `reply` are what a host program uses. `calls` has one function for each
+//! export of the library, for tests that drive them one by one.
+//!
+//! `cargo test` in this folder has the library proved and built first, and compares it with the
+//! codec in `independent/`, which is written from the papers alone.
+
+mod answer;
+pub mod calls;
+mod frames;
+pub mod raw;
+
+pub use answer::Answer;
+pub use frames::{read, reply, write, Command, Frame};
+pub use raw::{Init, Setting, Single};

@@ -1,0 +1,121 @@
+//! The exports of the library `boundary` as the C ABI of x86-64 Linux has them.
+//!
+//! Nothing compares these declarations with the library's source. Both sides rely on this:
+//!
+//! - a struct has its fields in the order written, each at the next multiple of its own size (of
+//!   its greatest number's, for a struct or an array), and is padded at its end to a multiple of
+//!   its greatest number's size; `usize` has 8 bytes;
+//! - structs are passed and returned by value;
+//! - a byte slice is passed as a pointer and then its length, as two parameters;
+//! - a call neither keeps a pointer nor goes past its length, and is given `out` to itself.
+//!
+//! The sizes and offsets that follow are pinned in the tests.
+
+/// The variables of an Init frame: N_Factor, Channel_Stim, Channel_Lf, Group_Time, Main_Time.
+#[derive(Clone, Copy, Debug, Default, PartialEq, Eq)]
+#[repr(C)]
+pub struct Init {
+    pub factor: u8,
+    pub stim: u8,
+    pub lf: u8,
+    pub group: u8,
+    pub main: u16,
+}
+
+/// One channel's variables of an Update frame: Mode, Pulse_Width, Pulse_Current.
+#[derive(Clone, Copy, Debug, Default, PartialEq, Eq)]
+#[repr(C)]
+pub struct Setting {
+    pub mode: u8,
+    pub width: u16,
+    pub current: u8,
+}
+
+/// What an Update frame is written from: the listed channels' settings, lowest channel first, and
+/// zeros behind them.
+#[derive(Clone, Copy, Debug, Default, PartialEq, Eq)]
+#[repr(C)]
+pub struct Settings {
+    pub all: [Setting; 8],
+}
+
+/// The variables of a Single frame: Channel_Number (0 to 7), Pulse_Width, Pulse_Current.
+#[derive(Clone, Copy, Debug, Default, PartialEq, Eq)]
+#[repr(C)]
+pub struct Single {
+    pub channel: u8,
+    pub width: u16,
+    pub current: u8,
+}
+
+/// What a writer reports.
+#[derive(Clone, Copy, Debug, Default, PartialEq, Eq)]
+#[repr(C)]
+pub struct Wrote {
+    pub answer: u8,
+    pub used: usize,
+}
+
+/// What the reader reports, with the fields of an Init frame.
+#[derive(Clone, Copy, Debug, Default, PartialEq, Eq)]
+#[repr(C)]
+pub struct ReadInit {
+    pub answer: u8,
+    pub ident: u8,
+    pub used: usize,
+    pub init: Init,
+}
+
+/// What the reader reports, with the fields of an Update frame.
+#[derive(Clone, Copy, Debug, Default, PartialEq, Eq)]
+#[repr(C)]
+pub struct ReadUpdate {
+    pub answer: u8,
+    pub ident: u8,
+    pub used: usize,
+    pub settings: [Setting; 8],
+}
+
+/// What the reader reports; a Stop frame has no fields.
+#[derive(Clone, Copy, Debug, Default, PartialEq, Eq)]
+#[repr(C)]
+pub struct ReadStop {
+    pub answer: u8,
+    pub ident: u8,
+    pub used: usize,
+}
+
+/// What the reader reports, with the fields of a Single frame.
+#[derive(Clone, Copy, Debug, Default, PartialEq, Eq)]
+#[repr(C)]
+pub struct ReadSingle {
+    pub answer: u8,
+    pub ident: u8,
+    pub used: usize,
+    pub single: Single,
+}
+
+extern "C" {
+    pub(crate) fn yarrowbell_read_init(frame: *const u8, length: usize, count: usize) -> ReadInit;
+    pub(crate) fn yarrowbell_read_update(
+        frame: *const u8,
+        length: usize,
+        count: usize,
+    ) -> ReadUpdate;
+    pub(crate) fn yarrowbell_read_stop(frame: *const u8, length: usize, count: usize) -> ReadStop;
+    pub(crate) fn yarrowbell_read_single(
+        frame: *const u8,
+        length: usize,
+        count: usize,
+    ) -> ReadSingle;
+    pub(crate) fn yarrowbell_write_init(init: Init, out: *mut u8, length: usize) -> Wrote;
+    pub(crate) fn yarrowbell_write_update(
+        settings: Settings,
+        count: usize,
+        out: *mut u8,
+        length: usize,
+    ) -> Wrote;
+    pub(crate) fn yarrowbell_write_stop(out: *mut u8, length: usize) -> Wrote;
+    pub(crate) fn yarrowbell_write_single(single: Single, out: *mut u8, length: usize) -> Wrote;
+    pub(crate) fn yarrowbell_reply(ident: u8, answer: u8) -> u8;
+}

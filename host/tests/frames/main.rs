@@ -1,0 +1,21 @@
+//! Every export against the independent codec, and against what the papers say outright.
+
+mod agree;
+mod random;
+#[path = "../shared/seeded.rs"]
+mod seeded;
+
+mod answers;
+mod counts;
+mod damage;
+mod init;
+mod kinds;
+mod layouts;
+mod outputs;
+mod papers;
+mod replies;
+mod round_trips;
+mod single;
+mod stop;
+mod update;
+mod writers;

@@ -1,0 +1,46 @@
+//! Ways to spell a command, and the least and greatest good values.
+
+use crate::run::prints;
+
+#[test]
+fn single() {
+    prints("write single --channel 1 --width 0 --current 0", &["E0 00 00 00"]);
+    prints("write single --current 127 --width 500 --channel 8", &["FA 73 74 7F"]);
+    prints("write single --channel=8 --width=500 --current=127", &["FA 73 74 7F"]);
+}
+
+#[test]
+fn init() {
+    let least = "80 00 20 00 30 04";
+    prints("write init --channels 1 --group-time 3 --main-time 4", &[least]);
+    prints("write init --skips 0 --channels 1 --group-time 3 --main-time 4", &[least]);
+    let greatest = "9F 7F 7F 73 5F 7D";
+    prints(
+        "write init --channels 1,2,3,4,5,6,7,8 --low-frequency 1,2,3,4,5,6,7,8 --skips 7 \
+         --group-time 29 --main-time 2045",
+        &[greatest],
+    );
+    prints(
+        "write init --main-time 2045 --group-time 29 --skips 7 \
+         --low-frequency 8,1,7,2,6,3,5,4 --channels 5,4,6,3,7,2,8,1",
+        &[greatest],
+    );
+}
+
+#[test]
+fn low_frequency_channels_need_not_be_listed() {
+    prints(
+        "write init --channels 1 --low-frequency 8 --group-time 3 --main-time 4",
+        &["80 00 30 00 30 04"],
+    );
+}
+
+#[test]
+fn update() {
+    prints("write update 0:0:0", &["A0 00 00 00"]);
+    prints("write update 2:500:127", &["B5 43 74 7F"]);
+    prints(
+        "write update 0:10:0 0:10:0 0:10:0 0:10:0 0:10:0 0:10:0 0:10:0 0:10:88",
+        &["A8 00 0A 00 00 0A 00 00 0A 00 00 0A 00 00 0A 00 00 0A 00 00 0A 00 00 0A 58"],
+    );
+}
