@@ -14,10 +14,10 @@ use Rattle.commands.specs.declared.Setting.{Setting}
 use Rattle.commands.specs.Commands.{noSetting, settingSum, sumAll, goodEntry, goodEntries}
 
 -- entry i is listed where entries are left of the count
-listed : (i count : ℕ) → ltb 0 (count - i) ≡ ltb i count
-listed zero count = ap (ltb 0) (sub-zero count)
-listed (suc i) zero = le-ltb 0 (0 - suc i) (omega arith) ∙ sym (le-ltb (suc i) 0 (omega arith))
-listed (suc i) (suc count) = rw suc-sub-suc (listed i count ∙ sym (leb·suc-suc (suc i) count))
+listed-left : (i count : ℕ) → ltb 0 (count - i) ≡ ltb i count
+listed-left zero count = ap (ltb 0) (sub-zero count)
+listed-left (suc i) zero = le-ltb 0 (0 - suc i) (omega arith) ∙ sym (le-ltb (suc i) 0 (omega arith))
+listed-left (suc i) (suc count) = rw suc-sub-suc (listed-left i count ∙ sym (leb·suc-suc (suc i) count))
 
 module _ (entries : List Setting) (i : ℕ) where
   pub sum-turn : i < length entries → sumAll (drop i entries) ≡ settingSum (getD entries i noSetting) + sumAll (drop (i + 1) entries)
@@ -34,7 +34,7 @@ module _ (entries : List Setting) (i : ℕ) where
   unfolding goodEntries
   good-turn count h =
       let e : count - (i + 1) ≡ count - i - 1 = omega arith in
-      rw (drop-cons entries i noSetting h, e, listed i count, add-one i)
+      rw (drop-cons entries i noSetting h, e, listed-left i count, add-one i)
 
   pub good-end : (count : ℕ) → length entries ≤ i → goodEntries (drop i entries) (count - i) ≡ true
   unfolding goodEntries

@@ -50,16 +50,3 @@ fn every_pair_of_channel_sets() {
         }
     });
 }
-
-#[test]
-fn every_wrong_check_of_a_sample() {
-    random::seeded(2_000..12_000, |rng| {
-        let command = random::good(rng, Kind::Init, 1);
-        for check in 0..8 {
-            let frame = independent::compose(&command, 1, check);
-            let right = check == independent::check(&command);
-            let expected = if right { Ok(Frame { command, used: 6 }) } else { Err(3) };
-            assert_eq!(agree::read(&frame, 1), expected);
-        }
-    });
-}

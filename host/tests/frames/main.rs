@@ -6,6 +6,7 @@ mod random;
 mod seeded;
 
 mod answers;
+mod checks;
 mod counts;
 mod damage;
 mod init;

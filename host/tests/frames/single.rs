@@ -54,16 +54,3 @@ fn every_single_with_a_wrong_check() {
         });
     });
 }
-
-#[test]
-fn every_wrong_check_of_a_sample() {
-    random::seeded(100..3_100, |rng| {
-        let command = random::good(rng, Kind::Single, 1);
-        for check in 0..32 {
-            let frame = independent::compose(&command, 1, check);
-            let right = check == independent::check(&command);
-            let expected = if right { Ok(Frame { command, used: 4 }) } else { Err(3) };
-            assert_eq!(agree::read(&frame, 1), expected);
-        }
-    });
-}

@@ -72,17 +72,3 @@ fn greatest_sums() {
         }
     });
 }
-
-#[test]
-fn every_wrong_check_of_a_sample() {
-    random::seeded(7_000..9_000, |rng| {
-        let count = rng.gen_range(1..=8);
-        let command = random::good(rng, Kind::Update, count);
-        for check in 0..32 {
-            let frame = independent::compose(&command, count, check);
-            let right = check == independent::check(&command);
-            let expected = if right { Ok(Frame { command, used: 1 + 3 * count }) } else { Err(3) };
-            assert_eq!(agree::read(&frame, count), expected);
-        }
-    });
-}
