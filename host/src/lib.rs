@@ -1,11 +1,11 @@
 //! Safe calls to the proved reader and writer of ScienceMode frames (document 01, "The four
-//! frames").
+//! frames") and to the proved trace ring ("The ring").
 //!
 //! `read`, `write` and `reply` are what a host program uses. `calls` has one function for each
-//! export of the library, for tests that drive them one by one.
+//! export of the library, for tests that drive them one by one; the ring is there alone.
 //!
 //! `cargo test` in this folder has the library proved and built first, and compares it with the
-//! codec in `independent/`, which is written from the papers alone.
+//! codec and the ring in `independent/`, which are written from the papers alone.
 
 mod answer;
 pub mod calls;

@@ -1,18 +1,27 @@
-//! A second codec of the four ScienceMode command frames, written from the papers alone and
-//! sharing nothing with the library that it is compared with.
+//! A second codec of the four ScienceMode command frames and a second trace ring, written from the
+//! papers alone and sharing nothing with the library that they are compared with.
 //!
 //! Source 003 is "ScienceMode - RehaStim Stimulation Device", 21st September 2009; document 01 is
 //! the specification of this repository, which rules where source 003 leaves a choice.
 //!
-//! It works on lists of bits: `tables` has the papers' tables as data, `walk` goes along them bit
-//! by bit, and `codec` puts the tests of document 01 in their order.
+//! The codec works on lists of bits: `tables` has the papers' tables as data, `walk` goes along them
+//! bit by bit, and `codec` puts the tests of document 01 in their order.
+//!
+//! The ring is there twice: `trace` has it from the records pushed, `ring` from the bytes of a
+//! buffer, whoever wrote them.
 
 mod codec;
 mod command;
 mod good;
+mod record;
+mod ring;
 mod tables;
+mod trace;
 mod walk;
 
 pub use codec::{check, compose, free_bits, read, reply, write, Frame};
 pub use command::{Command, Init, Setting, Single};
+pub use record::Record;
+pub use ring::{Part, Ring};
 pub use tables::{Bit, Kind, Layout, Row, Variable, LAYOUTS};
+pub use trace::{tail, Trace};
