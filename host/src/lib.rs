@@ -2,10 +2,10 @@
 //! frames") and to the proved trace ring ("The ring").
 //!
 //! `read`, `write` and `reply` are what a host program uses. `calls` has one function for each
-//! export of the library, for tests that drive them one by one; the ring is there alone.
+//! export of the library, for tests that drive them one by one; the ring has no other calls.
 //!
 //! `cargo test` in this folder has the library proved and built first, and compares it with the
-//! codec and the ring in `independent/`, which are written from the papers alone.
+//! codec and the ring in `independent/`, which share nothing with it.
 
 mod answer;
 pub mod calls;

@@ -7,7 +7,8 @@
 //!   its greatest number's size; `usize` has 8 bytes;
 //! - structs are passed and returned by value;
 //! - a byte slice is passed as a pointer and then its length, as two parameters;
-//! - a call neither keeps a pointer nor goes past its length, and is given `out` to itself.
+//! - a call neither keeps a pointer nor goes past its length, and is given to itself what it may
+//!   write.
 //!
 //! The sizes and offsets that follow are pinned in the tests.
 

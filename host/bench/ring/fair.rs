@@ -39,7 +39,8 @@ fn good(rng: &mut SmallRng) -> Lent {
             used <= most
         })
         .collect();
-    Plan { capacity, start, offset, length, bodies: Bodies::Random }.laid(&kinds)
+    let seed = rng.gen();
+    Plan { capacity, start, offset, length, bodies: Bodies::Random, seed }.laid(&kinds)
 }
 
 /// The ring with one thing changed, mostly for the worse.
@@ -67,7 +68,7 @@ fn odd_number(rng: &mut SmallRng, about: usize) -> usize {
         0 => 0,
         1 => MOST + 1,
         2 => usize::MAX - rng.gen_range(0..=about),
-        _ => (about + rng.gen_range(0..=4)).saturating_sub(2),
+        _ => about.saturating_add(rng.gen_range(0..=4)).saturating_sub(2),
     }
 }
 

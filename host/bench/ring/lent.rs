@@ -28,18 +28,19 @@ pub struct Plan {
     pub offset: usize,
     pub length: usize,
     pub bodies: Bodies,
+    pub seed: u64,
 }
 
 impl Plan {
     /// A ring from its part's beginning, the part from the buffer's beginning to its end.
     pub fn whole(capacity: usize) -> Plan {
-        Plan { capacity, start: 0, offset: 0, length: capacity, bodies: Bodies::Random }
+        Plan { capacity, start: 0, offset: 0, length: capacity, bodies: Bodies::Random, seed: 0 }
     }
 
     /// The ring with records of these kinds, oldest first. All the rest of the buffer is random.
     pub fn laid(self, kinds: &[u8]) -> Lent {
-        let Plan { capacity, start, offset, length, bodies } = self;
-        let mut rng = SmallRng::seed_from_u64(0);
+        let Plan { capacity, start, offset, length, bodies, seed } = self;
+        let mut rng = SmallRng::seed_from_u64(seed);
         let mut buffer = vec![0; length];
         rng.fill(&mut buffer[..]);
         let mut used = 0;

@@ -25,8 +25,7 @@ const MOST: usize = 4096;
 
 const LEGEND: &str = "
 Nanoseconds for one call, the median of criterion's samples. Ratio: library / plain.
-Mixed: the three kinds in a shuffled order. Either side pays where it branches on a kind that the
-processor guesses wrongly: compare 64 mixed, in another order each call, and of one kind alone.";
+Mixed: the three kinds in a shuffled order.";
 
 fn main() {
     fair::check();

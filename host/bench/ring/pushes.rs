@@ -11,8 +11,8 @@ use rand::rngs::SmallRng;
 use rand::SeedableRng;
 use std::hint::black_box;
 
-/// Full rings, where each push goes on with what the last one left: for each record in there goes
-/// one out. The write goes round the part's end when its turn comes, seldom in a large ring.
+/// Full rings, where each push goes on with what the last one left, and old records go as new ones
+/// come. The write goes round the part's end when its turn comes, seldom in a large ring.
 pub fn runs(meter: &mut Meter) -> Vec<(&'static str, Pair)> {
     let long = 4096;
     let runs = [

@@ -1,5 +1,6 @@
 //! A second codec of the four ScienceMode command frames and a second trace ring, written from the
-//! papers alone and sharing nothing with the library that they are compared with.
+//! papers alone and sharing nothing with the library that they are compared with. Where a push meets
+//! bytes that do not split, which no paper speaks of, the ring follows the repository's decision.
 //!
 //! Source 003 is "ScienceMode - RehaStim Stimulation Device", 21st September 2009; document 01 is
 //! the specification of this repository, which rules where source 003 leaves a choice.

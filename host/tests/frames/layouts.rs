@@ -15,10 +15,6 @@ fn sizes() {
     assert_eq!((size_of::<ReadUpdate>(), align_of::<ReadUpdate>()), (64, 8));
     assert_eq!((size_of::<ReadStop>(), align_of::<ReadStop>()), (16, 8));
     assert_eq!((size_of::<ReadSingle>(), align_of::<ReadSingle>()), (24, 8));
-    assert_eq!((size_of::<Part>(), align_of::<Part>()), (16, 8));
-    assert_eq!((size_of::<Ring>(), align_of::<Ring>()), (24, 8));
-    assert_eq!((size_of::<Pushed>(), align_of::<Pushed>()), (32, 8));
-    assert_eq!((size_of::<Readout>(), align_of::<Readout>()), (16, 8));
 }
 
 #[test]
@@ -67,13 +63,4 @@ fn offsets_of_the_reports() {
         offset_of!(ReadSingle, single),
     ];
     assert_eq!(single, [0, 1, 8, 16]);
-}
-
-#[test]
-fn offsets_of_the_ring() {
-    assert_eq!([offset_of!(Part, offset), offset_of!(Part, size)], [0, 8]);
-    let ring = [offset_of!(Ring, capacity), offset_of!(Ring, start), offset_of!(Ring, used)];
-    assert_eq!(ring, [0, 8, 16]);
-    assert_eq!([offset_of!(Pushed, answer), offset_of!(Pushed, ring)], [0, 8]);
-    assert_eq!([offset_of!(Readout, answer), offset_of!(Readout, used)], [0, 8]);
 }

@@ -1,4 +1,4 @@
-//! Every export against the independent codec, and against what the papers say outright.
+//! Every export for frames against the independent codec, and against what the papers say outright.
 
 mod agree;
 mod random;

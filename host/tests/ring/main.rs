@@ -11,6 +11,7 @@ mod seeded;
 mod damage;
 mod histories;
 mod kinds;
+mod layouts;
 mod neighbours;
 mod numbers;
 mod order;

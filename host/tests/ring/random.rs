@@ -67,6 +67,16 @@ pub fn empty(rng: &mut SmallRng, capacity: usize, start: usize) -> Placed {
     }
 }
 
+/// The same ring, and its part's bytes, at another place of another buffer.
+pub fn moved(rng: &mut SmallRng, placed: &Placed) -> Placed {
+    let Placed { at, ring, buffer } = placed;
+    let mut moved = empty(rng, ring.capacity, ring.start);
+    let to = moved.at;
+    let bytes = &buffer.slice()[at.offset..][..at.size];
+    moved.buffer.slice_mut()[to.offset..][..to.size].copy_from_slice(bytes);
+    Placed { ring: *ring, ..moved }
+}
+
 /// The ring with records of these kinds pushed on it.
 pub fn holding(rng: &mut SmallRng, mut placed: Placed, kinds: &[u8]) -> Placed {
     let buffer = placed.buffer.slice().to_vec();

@@ -13,12 +13,13 @@ fn holds_the_tail(rng: &mut SmallRng, placed: &Placed, all: &[Record]) {
     assert_eq!(agree::read_out(rng, placed, capacity), Ok(expected), "{placed:?} after {all:?}");
 }
 
-/// Pushes random records on an empty ring, and looks at it after each.
+/// Pushes random records on an empty ring. `look` gets what each leaves, and hands on what the next
+/// gets.
 fn pushes(
     rng: &mut SmallRng,
     mut placed: Placed,
     count: usize,
-    look: impl Fn(&mut SmallRng, &Placed, &[Record]),
+    look: impl Fn(&mut SmallRng, Placed, &[Record]) -> Placed,
 ) {
     let kinds = random::kinds(rng);
     let mut all = Vec::new();
@@ -28,7 +29,7 @@ fn pushes(
         all.push(new);
         let pushed = agree::push(&mut placed, new);
         assert!(pushed.is_ok(), "{placed:?} after {all:?}");
-        look(rng, &placed, &all);
+        placed = look(rng, placed, &all);
     }
 }
 
@@ -39,7 +40,10 @@ fn after_every_push_of_a_short_history() {
         let start = rng.gen_range(0..capacity);
         let placed = random::empty(rng, capacity, start);
         let count = rng.gen_range(1..=80);
-        pushes(rng, placed, count, holds_the_tail);
+        pushes(rng, placed, count, |rng, placed, all| {
+            holds_the_tail(rng, &placed, all);
+            placed
+        });
     });
 }
 
@@ -51,8 +55,24 @@ fn at_the_end_of_a_long_history() {
         let count = rng.gen_range(800..=1_600);
         pushes(rng, placed, count, |rng, placed, all| {
             if all.len() == count {
-                holds_the_tail(rng, placed, all);
+                holds_the_tail(rng, &placed, all);
             }
+            placed
+        });
+    });
+}
+
+/// "inside the lent buffer the part of the box's capacity, holding what that call left": each call
+/// gets another buffer, and the part at another place in it.
+#[test]
+fn in_parts_that_move_between_calls() {
+    random::seeded(50_000..51_000, |rng| {
+        let capacity = random::capacity(rng);
+        let placed = random::empty(rng, capacity, 0);
+        pushes(rng, placed, 100, |rng, placed, all| {
+            let moved = random::moved(rng, &placed);
+            holds_the_tail(rng, &moved, all);
+            random::moved(rng, &moved)
         });
     });
 }
