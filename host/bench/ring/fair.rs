@@ -1,7 +1,7 @@
 //! Both sides must do the same work before their times are compared.
 
 use crate::lent::{Bodies, Lent, Plan};
-use crate::record::{Record, ANSWER, TRIP};
+use crate::record::{self, ANSWER, TRIP};
 use crate::seeded::seeded;
 use crate::sides::{LIBRARY, PLAIN};
 use crate::{plain, MOST};
@@ -93,7 +93,7 @@ fn compare(rng: &mut SmallRng, lent: &Lent) {
     let mut left = *ring;
     for _ in 0..rng.gen_range(1..=8) {
         let kind = rng.gen_range(ANSWER..=TRIP);
-        let record = Record::any(rng, kind);
+        let record = record::any(rng, kind);
         let [first, second] = &mut buffers;
         let pushed = [(&LIBRARY, first), (&PLAIN, second)]
             .map(|(side, buffer)| side.push(buffer, *at, left, record));

@@ -3,10 +3,11 @@
 use crate::lent::{Lent, Plan};
 use crate::meter::{Meter, Pair};
 use crate::plain;
-use crate::record::{mixed, Record, ANSWER, PULSE, TRIP};
+use crate::record::{self, mixed, ANSWER, PULSE, TRIP};
 use crate::sides::Side;
 use crate::MOST;
 use criterion::Bencher;
+use independent::Record;
 use rand::rngs::SmallRng;
 use rand::SeedableRng;
 use std::hint::black_box;
@@ -24,7 +25,7 @@ pub fn runs(meter: &mut Meter) -> Vec<(&'static str, Pair)> {
     ];
     let rows = runs.into_iter().filter_map(|(what, capacity, kinds)| {
         let mut rng = SmallRng::seed_from_u64(1);
-        let records: Vec<Record> = kinds.iter().map(|&kind| Record::any(&mut rng, kind)).collect();
+        let records: Vec<Record> = kinds.iter().map(|&kind| record::any(&mut rng, kind)).collect();
         let pair = meter
             .pair("push", what, |side, bencher| going_on(side, bencher, capacity, &records))?;
         Some((what, pair))
@@ -47,7 +48,7 @@ pub fn cases(meter: &mut Meter) -> Vec<(&'static str, Pair)> {
         ("kind 02, drops two 03, round the end", trips(682 * 6 - 3), PULSE),
     ];
     let rows = cases.into_iter().filter_map(|(what, lent, kind)| {
-        let record = Record::any(&mut SmallRng::seed_from_u64(1), kind);
+        let record = record::any(&mut SmallRng::seed_from_u64(1), kind);
         let pair =
             meter.pair("push", what, |side, bencher| same_ring(side, bencher, &lent, record))?;
         Some((what, pair))

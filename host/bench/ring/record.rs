@@ -1,5 +1,6 @@
 //! Records to push, and kinds of record to lay.
 
+use independent::Record;
 use rand::rngs::SmallRng;
 use rand::seq::SliceRandom;
 use rand::{Rng, SeedableRng};
@@ -8,26 +9,17 @@ pub const ANSWER: u8 = 1;
 pub const PULSE: u8 = 2;
 pub const TRIP: u8 = 3;
 
-#[derive(Clone, Copy, Debug)]
-pub enum Record {
-    Answer { clock: u32, ident: u8, answer: u8 },
-    Pulse { clock: u32, channel: u8, width: u16, current: u8 },
-    Trip { clock: u32, cause: u8 },
-}
-
-impl Record {
-    /// A record of this kind with any body.
-    pub fn any(rng: &mut SmallRng, kind: u8) -> Record {
-        let clock = rng.gen();
-        match kind {
-            ANSWER => Record::Answer { clock, ident: rng.gen(), answer: rng.gen() },
-            PULSE => {
-                let (channel, width, current) = rng.gen();
-                Record::Pulse { clock, channel, width, current }
-            }
-            TRIP => Record::Trip { clock, cause: rng.gen() },
-            _ => panic!("no kind of record: {kind}"),
+/// A record of this kind with any body.
+pub fn any(rng: &mut SmallRng, kind: u8) -> Record {
+    let clock = rng.gen();
+    match kind {
+        ANSWER => Record::Answer { clock, ident: rng.gen(), answer: rng.gen() },
+        PULSE => {
+            let (channel, width, current) = rng.gen();
+            Record::Pulse { clock, channel, width, current }
         }
+        TRIP => Record::Trip { clock, cause: rng.gen() },
+        _ => panic!("no kind of record: {kind}"),
     }
 }
 

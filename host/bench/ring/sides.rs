@@ -1,7 +1,7 @@
 //! The two sides that are compared: the library's calls, and those of the plain ring.
 
 use crate::plain;
-use crate::record::Record;
+use independent::Record;
 use yarrowbell::calls;
 use yarrowbell::raw::{Part, Pushed, Readout, Ring};
 

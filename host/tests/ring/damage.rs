@@ -6,6 +6,7 @@ use crate::{agree, random};
 use independent::{Part, Ring};
 use rand::rngs::SmallRng;
 use rand::Rng;
+use std::ops::{Range, RangeInclusive};
 
 /// Some bits of a proper ring's part changed.
 #[test]
@@ -40,22 +41,22 @@ fn garbage(rng: &mut SmallRng, capacity: usize) -> Placed {
     Placed { at: Part { offset, size: capacity }, ring, buffer }
 }
 
-#[test]
-fn garbage_once() {
-    random::seeded(100_000..300_000, |rng| {
-        let capacity = rng.gen_range(16..=60);
+fn garbage_once(seeds: Range<u64>, capacities: RangeInclusive<usize>) {
+    random::seeded(seeds, |rng| {
+        let capacity = rng.gen_range(capacities.clone());
         let placed = garbage(rng, capacity);
         let _ = agree::all(rng, &placed);
     });
 }
 
 #[test]
+fn garbage_in_small_rings() {
+    garbage_once(100_000..300_000, 16..=60);
+}
+
+#[test]
 fn garbage_in_large_rings() {
-    random::seeded(300_000..302_000, |rng| {
-        let capacity = rng.gen_range(1000..=4096);
-        let placed = garbage(rng, capacity);
-        let _ = agree::all(rng, &placed);
-    });
+    garbage_once(300_000..302_000, 1000..=4096);
 }
 
 /// Pushes go on over what does not split, and every one of them is taken.
