@@ -56,7 +56,8 @@ pub fn good_init(v: Init) -> bool
     (v.factor <= 7) & (v.stim != 0) & is_within(3, v.group as u16, 29) & is_within(4, v.main, 2045)
 }
 
-fn good_setting(v: Setting) -> bool
+// A setting's Mode, Width and Current.
+pub fn good_setting(v: Setting) -> bool
     ensures { λ r. ⌜ r ≡ goodSetting v ⌝ }
 {
     (v.mode <= 2) & good_pulse(v.width, v.current)

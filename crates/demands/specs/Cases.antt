@@ -1,4 +1,5 @@
--- Document 01, "Sixteen to prove": the cases as one list under a single claim. Here stand 1 to 9, as they speak of frames.
+-- Document 01, "Sixteen to prove": the cases as one list under a single claim. Here stand 1 to 12, 14 and 15. 13 and 16 speak of the
+-- ring and of the making of a box; the ring's part of 13 stands in crate `trace`.
 use Prim.Native.Nat.{ℕ, _-_}
 use mathlib.Core.Bool.{Bool, true, false, cond, _&&_}
 use mathlib.Core.Path.{_≡_}
@@ -13,6 +14,8 @@ use Rattle.frames.specs.declared.Read.{Read}
 use Rattle.frames.specs.Bytes.{frame}
 use Rattle.frames.specs.Reader.{found, refused, readFrame}
 use Rattle.writers.specs.Writer.{wrote, written}
+use Rattle.trace.specs.declared.Record.the-variants.{Answer, Pulse, Trip}
+use Rattle.demands.specs.FreshBox.{sent, ticks, box, answers, trace, recordNumbers, decides}
 
 -- a case: its number in document 01, and what two sides give, written as numbers
 pub record Case : Type 0 where
@@ -68,6 +71,20 @@ setTo mode width current = record { mode = mode; width = width; current = curren
 abbrev pub updateOf : Setting → Setting → Command
 updateOf v w = update 2 (v ∷ w ∷ replicate 6 noSetting)
 
+-- the Init of case 5 and the Update of case 6, as document 01 writes them
+abbrev pub init5 : List ℕ
+init5 = 0x88 ∷ 0x01 ∷ 0x20 ∷ 0x00 ∷ 0x30 ∷ 0x12 ∷ []
+
+abbrev pub update6 : List ℕ
+update6 = 0xBB ∷ 0x01 ∷ 0x48 ∷ 0x28 ∷ 0x22 ∷ 0x2C ∷ 0x1E ∷ []
+
+-- eight channels, and an Update of them with a doublet
+abbrev pub eightOf : ℕ → ℕ → Command
+eightOf group main = init (record { factor = 0; stim = 255; lf = 0; group = group; main = main })
+
+abbrev pub doublet : Command
+doublet = update 8 (setTo 1 200 20 ∷ replicate 7 (setTo 0 200 20))
+
 -- the frame of a command reads as it, and a writer writes it
 abbrev pub bothWays : ℕ → Command → List ℕ → List Case
 bothWays n c s = case n (writes c) (bytes s) ∷ case n (reads s) (numbers (found c)) ∷ []
@@ -96,9 +113,9 @@ cases =
     ∷ case 4 (reads (0xE3 ∷ 0x21 ∷ 0x48 ∷ 0x78 ∷ [])) (numbers (refused 3))
     ∷ case 4 (reply 3 3 ∷ []) (0xC0 ∷ [])
     -- 5. Init, N 0, channels 1 and 3, Lf 0, Group 3, Main 18: 88 01 20 00 30 12
-    ∷ bothWays 5 (initOf 18) (0x88 ∷ 0x01 ∷ 0x20 ∷ 0x00 ∷ 0x30 ∷ 0x12 ∷ [])
+    ∷ bothWays 5 (initOf 18) init5
     -- 6. Update, 1: Mode 0, 200, 40; 3: Mode 1, 300, 30: BB 01 48 28 22 2C 1E
-    ++ bothWays 6 (updateOf (setTo 0 200 40) (setTo 1 300 30)) (0xBB ∷ 0x01 ∷ 0x48 ∷ 0x28 ∷ 0x22 ∷ 0x2C ∷ 0x1E ∷ [])
+    ++ bothWays 6 (updateOf (setTo 0 200 40) (setTo 1 300 30)) update6
     -- 7. Stop: C0
     ++ bothWays 7 stop (0xC0 ∷ [])
     -- 8. Main_Time 2045 good, 2046 answer 4
@@ -107,6 +124,25 @@ cases =
     ++ notGood 9 (singleOf 0 9 1) ++ isGood 9 (singleOf 0 10 1) ++ isGood 9 (singleOf 0 500 1) ++ notGood 9 (singleOf 0 501 1)
     ++ notGood 9 (updateOf (setTo 0 9 1) noSetting) ++ isGood 9 (updateOf (setTo 0 10 1) noSetting)
     ++ isGood 9 (updateOf (setTo 0 500 1) noSetting) ++ notGood 9 (updateOf (setTo 0 501 1) noSetting)
+    -- 10. Eight channels: t2 60 allowed, 55 answer 5
+    ++ case 10 (decides (eightOf 9 100 ∷ [])) (0 ∷ [])
+    ∷ case 10 (decides (eightOf 8 100 ∷ [])) (5 ∷ [])
+    -- 11. Eight channels, t2 60, a doublet: t1 135 allowed, 130 answer 5
+    ∷ case 11 (decides (eightOf 9 25 ∷ doublet ∷ [])) (0 ∷ 0 ∷ [])
+    ∷ case 11 (decides (eightOf 9 24 ∷ doublet ∷ [])) (0 ∷ 5 ∷ [])
+    -- 12. Limits at their loosest, watchdog 250; Init of 5 at clock 0, Update of 6 at clock 5: pulses at 100, 200 (channel 1), 115, 145,
+    -- 215, 245 (channel 3), then a trip at 255 and none after, here up to clock 300
+    ∷ case 12 (recordNumbers (trace (box (sent init5 ++ ticks 5 ++ sent update6 ++ ticks 295))))
+    (recordNumbers
+    (Answer 0 0 0 ∷ Answer 5 1 0
+    ∷ Pulse 100 1 200 40 ∷ Pulse 115 3 300 30 ∷ Pulse 145 3 300 30
+    ∷ Pulse 200 1 200 40 ∷ Pulse 215 3 300 30 ∷ Pulse 245 3 300 30
+    ∷ Trip 255 2 ∷ []))
+    -- 14. Update in idle: 6 on the first byte, then 2 on each low byte
+    ∷ case 14 (answers (box (sent update6))) (6 ∷ 2 ∷ 2 ∷ 2 ∷ 2 ∷ 2 ∷ 2 ∷ [])
+    -- 15. Single channel 1 twice in one clock: 0, then 8
+    ∷ case 15 (decides (singleOf 0 200 20 ∷ singleOf 0 200 20 ∷ [])) (0 ∷ 8 ∷ [])
+    ∷ []
 
 -- ---- the claim
 

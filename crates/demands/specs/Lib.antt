@@ -1,3 +1,4 @@
 pub mod DontCare
 pub mod RoundTrips
+pub mod FreshBox
 pub mod Cases

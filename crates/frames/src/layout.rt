@@ -17,12 +17,6 @@ pub struct Entry {
     pub current: u8,
 }
 
-pub fn ident_of(first: u8) -> u8
-    ensures { λ r. ⌜ r ≡ field first 5 2 ⌝ }
-{
-    bits::take_field(first as u64, 5, 2) as u8
-}
-
 // The Check of all but Init.
 pub fn check_of(first: u8) -> u64
     ensures { λ r. ⌜ r ≡ field first 0 5 ⌝ }

@@ -8,6 +8,7 @@ use commands::Single;
 use commands::answers;
 use commands::idents;
 ghost use mathlib.Core.Path.{_≡_};
+ghost use Rattle.bits.specs.Fields.{field};
 ghost use Rattle.commands.specs.Answers.{firstOf};
 ghost use Rattle.frames.specs.Layout.{commandIn, checkIn};
 ghost use Rattle.frames.specs.Reader.{shapeTests, judge, readFrame};
@@ -32,6 +33,13 @@ pub struct Read {
     pub fields: Fields,
 }
 
+// The Ident in a frame's first byte.
+pub fn ident_of(first: u8) -> u8
+    ensures { λ r. ⌜ r ≡ field first 5 2 ⌝ }
+{
+    bits::take_field(first as u64, 5, 2) as u8
+}
+
 // The frame at the front of s, whose list has `count` channels.
 pub fn read_frame(s: &[u8], count: usize) -> Read
     ensures { λ r. ⌜ r ≡ readFrame (now (s .entry)) count ⌝ }
@@ -49,7 +57,7 @@ fn read_kind(s: &[u8], count: usize) -> Read
     ensures { λ r. ⌜ r ≡ judge (checkIn (now (s .entry))) (commandIn (now (s .entry)) count) ⌝ }
 {
     let first = s[0];
-    let ident = layout::ident_of(first);
+    let ident = ident_of(first);
     if ident == idents::INIT {
         return reading::read_init(s);
     }

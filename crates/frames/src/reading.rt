@@ -46,7 +46,7 @@ pub fn shape(s: &[u8], count: usize) -> u8
         }
         let first = s[0];
         if bits::is_high(first) {
-            return whole(s, layout::size_for(layout::ident_of(first), count));
+            return whole(s, layout::size_for(super::ident_of(first), count));
         }
         return answers::LOW_BYTE;
     }

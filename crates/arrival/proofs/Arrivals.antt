@@ -1,0 +1,135 @@
+-- What each kind of byte comes to on a good box. Assumes nothing.
+use Prim.Native.Nat.{ℕ, _+_, _*_, _≤_, _<_}
+use mathlib.Core.Bool.{Bool, true, false, cond}
+use mathlib.Core.Path.{_≡_, refl, sym, ap, _∙_}
+use mathlib.Core.List.{List, [], _∷_, _++_}
+use native.Mathlib.Omega.{arith}
+use lib.Dec.{eqb}
+use lib.ListN.{length, take, length-append}
+use lib.Seq.{length-take-le}
+use borrow.Author.Tests.{eq-eqb, ne-eqb}
+use Rattle.frames.specs.Layout.{identIn}
+use Rattle.model.specs.declared.Core.{Core}
+use Rattle.model.specs.Channels.{channels}
+use Rattle.model.specs.State.{Partial, isRunning}
+use Rattle.model.specs.Effects.{Done}
+use Rattle.model.specs.Good.{goodPartial}
+use Rattle.model.specs.Arrival.{Arrival.stray, Arrival.alone, Arrival.growing, Arrival.whole, lengthened, opened, followed, decided, judged, taken}
+use Rattle.record.specs.declared.Box.{Box}
+use Rattle.record.specs.declared.PartialFrame.{PartialFrame}
+use Rattle.record.specs.Box.{partialOf, stateOf, frameOf, boxOf, goodBox}
+use Rattle.record.proofs.Facts.{box-facts, OpenFrame, open-facts, size-most}
+use Rattle.record.proofs.States.{not-running}
+use Rattle.record.proofs.Carries.{frame-back, back}
+use Rattle.machine.specs.Said.{pulseOf, saidOf}
+use Rattle.machine.specs.Step.{refused, carried}
+use Rattle.effects.specs.Deciding.{decideFrame, given, Whole}
+use Rattle.effects.proofs.Judged.{whole-decided}
+use Rattle.arrival.specs.Arriving.{grown, kept, openedUpdate, settled}
+use Rattle.arrival.proofs.Growing.{grown-frame, used-by, len-by}
+use Rattle.arrival.proofs.Wholes.{finished-whole}
+
+-- ---- any box
+
+-- a decided command closes the frame
+pub settled-as : (b : Box) (k answer : ℕ) (d : Done) → settled b (given (decided (b .clock) k answer d)) ≡ carried b (decided (b .clock) k answer d)
+unfolding given carried decided boxOf
+settled-as b k answer d = refl
+
+pub whole-settled : (b : Box) (s : List ℕ) → Whole s
+    → settled b (given (decideFrame (b .profile) (b .clock) (b .core) s)) ≡ carried b (taken (b .profile) (stateOf b) (whole s))
+unfolding judged taken stateOf
+whole-settled b s w = rw (whole-decided (b .profile) (b .clock) (b .core) s w) (settled-as b _ _ _)
+
+-- 1: the byte is kept
+pub kept-as : (b : Box) (q : Partial) → kept b (frameOf q) ≡ carried b (taken (b .profile) (stateOf b) (growing q))
+unfolding taken carried saidOf pulseOf boxOf stateOf
+kept-as b q = refl
+
+-- an Update's first byte, while a list runs and while none does
+module _ (b : Box) (n : ℕ) where
+  pub update-opens : b .core .state ≡ 1
+      → kept b (frameOf (record { bytes = n ∷ []; size = 1 + 3 * channels (b .core .run .list .stim) })) ≡ carried b (taken (b .profile) (stateOf b) (openedUpdate (b .core) n))
+  update-opens e =
+      let runs : isRunning (b .core) ≡ true = rw e in
+      kept-as b _ ∙ ap (λ (x : Bool). carried b (taken (b .profile) (stateOf b) (cond x (growing (record { bytes = n ∷ []; size = 1 + 3 * channels (b .core .run .list .stim) })) alone))) (sym runs)
+
+  pub update-alone : (b .core .state ≡ 1 → ⊥) → openedUpdate (b .core) n ≡ alone
+  update-alone e = rw (not-running (b .core .state) false true e)
+
+-- a whole frame in its record
+pub ready : (f : PartialFrame) (q : Partial) → f ≡ frameOf q → length (q .bytes) ≤ 25 → Whole (q .bytes) → (f .len ≤ 25) × Whole (take (f .len) (f .bytes))
+ready f q e h w = (rw (len-by f q e) h, rw (used-by f q e) w)
+
+-- what a high byte opens, by its Ident
+module _ (m : Core) (n : ℕ) where
+  pub opens-update : identIn (n ∷ []) ≡ 1 → opened m n ≡ openedUpdate m n
+  unfolding opened
+  opens-update e = rw e
+
+  pub opens-init : identIn (n ∷ []) ≡ 0 → opened m n ≡ growing (record { bytes = n ∷ []; size = 6 })
+  unfolding opened lengthened
+  opens-init e = rw e
+
+  pub opens-stop : identIn (n ∷ []) ≡ 2 → opened m n ≡ whole (n ∷ [])
+  unfolding opened lengthened
+  opens-stop e = rw e
+
+  pub opens-single : identIn (n ∷ []) ≡ 3 → opened m n ≡ growing (record { bytes = n ∷ []; size = 4 })
+  unfolding opened lengthened
+  opens-single e = rw e
+
+-- ---- a low byte on a good box
+
+-- the frame as it is with one byte more
+abbrev pub longer : Box → ℕ → Partial
+longer b n = record { bytes = take (b .partial .len) (b .partial .bytes) ++ n ∷ []; size = b .partial .kept }
+
+module _ (b : Box) (l : length (b .partial .bytes) ≡ 25) (g : goodBox b ≡ true) (n : ℕ) where
+  -- bytes in use
+  in-use : length (take (b .partial .len) (b .partial .bytes)) ≡ b .partial .len
+  in-use = length-take-le _ (b .partial .bytes) (omega (arith, l, box-facts b g .len))
+
+  good-partial : goodPartial (b .core) (b .partial .kept) (take (b .partial .len) (b .partial .bytes)) ≡ true
+  unfolding stateOf
+  good-partial = box-facts b g .state .partial
+
+  -- no frame is open: a stray
+  pub strays : b .partial .len ≡ 0 → refused 2 b ≡ carried b (taken (b .profile) (stateOf b) (followed (partialOf (b .partial)) n))
+  unfolding followed taken carried saidOf pulseOf goodPartial stateOf
+  strays e =
+      let none : eqb (b .partial .kept) 0 ≡ true = rw e at good-partial in
+      rw (none, back b l g)
+
+  module _ (o : b .partial .len ≡ 0 → ⊥) where
+    pub is-open : OpenFrame (b .core) (b .partial .kept) (take (b .partial .len) (b .partial .bytes))
+    is-open = open-facts (b .core) (b .partial .kept) (take (b .partial .len) (b .partial .bytes)) good-partial (omega (arith, in-use, o))
+
+    -- there is room for the byte
+    pub has-room : b .partial .len < 25
+    has-room = omega (arith, is-open .shorter, in-use, size-most (b .core) _ (b .partial .kept) (is-open .sized))
+
+    pub longer-fits : length (longer b n .bytes) ≤ 25
+    longer-fits = omega (arith, length-append (take (b .partial .len) (b .partial .bytes)) (n ∷ []), in-use, has-room)
+
+    pub grows : grown (b .partial) n ≡ frameOf (longer b n)
+    grows =
+        ap (λ (q : PartialFrame). grown q n) (sym (frame-back (b .partial) l (box-facts b g .unused)))
+        ∙ grown-frame (partialOf (b .partial)) n (omega (arith, in-use, has-room))
+
+    follows : followed (partialOf (b .partial)) n ≡ cond (eqb (b .partial .len + 1) (b .partial .kept)) (whole (longer b n .bytes)) (growing (longer b n))
+    unfolding followed lengthened
+    follows =
+        let some : (b .partial .kept ≡ 0 → ⊥) = λ e. omega (arith, is-open .shorter, e) in
+        let more : length (longer b n .bytes) ≡ b .partial .len + 1 = length-append (take (b .partial .len) (b .partial .bytes)) (n ∷ []) ∙ ap (λ (k : ℕ). k + 1) in-use in
+        rw (ne-eqb (b .partial .kept) 0 some, more)
+
+    -- the frame is whole, or goes on
+    pub finishes : n < 128 → b .partial .len + 1 ≡ b .partial .kept → (followed (partialOf (b .partial)) n ≡ whole (longer b n .bytes)) × Whole (longer b n .bytes)
+    finishes h e = (
+      follows ∙ rw (eq-eqb (b .partial .len + 1) (b .partial .kept) e),
+      finished-whole (b .core) (b .partial .kept) (take (b .partial .len) (b .partial .bytes)) n is-open (omega (arith, in-use, o)) h (omega (arith, in-use, e)),
+    )
+
+    pub goes-on : (b .partial .len + 1 ≡ b .partial .kept → ⊥) → followed (partialOf (b .partial)) n ≡ growing (longer b n)
+    goes-on e = follows ∙ rw (ne-eqb (b .partial .len + 1) (b .partial .kept) e)

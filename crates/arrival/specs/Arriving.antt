@@ -1,0 +1,43 @@
+-- What a byte leaves of the partial frame.
+use Prim.Native.Nat.{ℕ, _+_}
+use mathlib.Core.Bool.{cond}
+use mathlib.Core.List.{[], _∷_}
+use lib.ListN.{set}
+use Rattle.frames.specs.Layout.{sizeFor}
+use Rattle.model.specs.declared.Core.{Core}
+use Rattle.model.specs.Channels.{channels}
+use Rattle.model.specs.State.{noFrame, isRunning}
+use Rattle.model.specs.Arrival.{Arrival, Arrival.alone, Arrival.growing}
+use Rattle.record.specs.declared.Box.{Box}
+use Rattle.record.specs.declared.PartialFrame.{PartialFrame}
+use Rattle.record.specs.Box.{frameOf}
+use Rattle.machine.specs.declared.Stepped.{Stepped}
+use Rattle.machine.specs.Said.{nothing, recordsOf}
+use Rattle.effects.specs.declared.Decided.{Decided}
+
+-- one byte more
+abbrev pub grown : PartialFrame → ℕ → PartialFrame
+grown q n = record { bytes = set (q .bytes) (q .len) n; len = q .len + 1; kept = q .kept }
+
+-- 1: the byte is kept
+abbrev pub kept : Box → PartialFrame → Stepped
+kept b q =
+    record {
+      said = record { answer = 1; reply = 0; a = nothing; b = nothing };
+      records = recordsOf [];
+      next = record { profile = b .profile; clock = b .clock; core = b .core; partial = q; ring = b .ring };
+    }
+
+-- an Update's first byte
+abbrev pub openedUpdate : Core → ℕ → Arrival
+openedUpdate m n =
+    cond (isRunning m) (growing (record { bytes = n ∷ []; size = sizeFor 1 (channels (m .run .list .stim)) })) alone
+
+-- a decided command closes the frame
+abbrev pub settled : Box → Decided → Stepped
+settled b d =
+    record {
+      said = d .said;
+      records = d .records;
+      next = record { profile = b .profile; clock = b .clock; core = d .core; partial = frameOf noFrame; ring = b .ring };
+    }

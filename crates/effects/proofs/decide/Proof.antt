@@ -1,0 +1,33 @@
+use borrow.Author.Needs.{needs}
+use Rattle.effects.proofs.Verdicts.{channel-fits}
+use Rattle.effects.proofs.decide.Statement.{statement}
+use Rattle.effects.proofs.decide.Tie as tie
+
+first-of-requires : tie.Need-first-of-requires
+first-of-requires c κs = search needs
+
+ident-of-requires : tie.Need-ident-of-requires
+ident-of-requires c κs = search needs
+
+told-count-requires : tie.Need-told-count-requires
+told-count-requires c κs = search needs
+
+read-frame-requires : tie.Need-read-frame-requires
+read-frame-requires c κs = search needs
+
+decide-read-requires : tie.Need-decide-read-requires
+decide-read-requires c κs = rw (c .read-frame .ensures) (channel-fits _ _)
+
+returns : tie.Need-returns
+returns c = cc
+
+pub decide-spec : {M : Type 1} → statement M
+decide-spec =
+    tie.close
+    (tie.spec
+    first-of-requires
+    ident-of-requires
+    told-count-requires
+    read-frame-requires
+    decide-read-requires
+    returns)

@@ -1,0 +1,28 @@
+use lib.Seq.{set-out}
+use borrow.Author.Needs.{needs}
+use Rattle.model.specs.Channels.{silence}
+use Rattle.judgement.proofs.single_settings.Statement.{statement}
+use Rattle.judgement.proofs.single_settings.Tie as tie
+
+silence-requires : tie.Need-silence-requires
+silence-requires c κs = search needs
+
+cast-channel : tie.Need-cast-channel
+cast-channel c = search needs
+
+mul-settings : tie.Need-mul-settings
+mul-settings c = search needs
+
+array-set-from-settings : tie.Need-array-set-from-settings
+array-set-from-settings c = search needs
+
+returns : tie.Need-returns
+returns c = cc
+
+returns-2 : tie.Need-returns-2
+returns-2 c = cc (set-out silence (c .before .before .before .args .v .channel) (record { mode = 0; width = c .before .before .before .args .v .width; current = c .before .before .before .args .v .current }) (search needs))
+
+pub single-settings-spec : {M : Type 1} → statement M
+single-settings-spec =
+    tie.close
+    (tie.spec silence-requires cast-channel mul-settings array-set-from-settings returns returns-2)

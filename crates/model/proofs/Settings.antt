@@ -1,0 +1,85 @@
+-- Settings that fit a list: silence, and what an Update asks for. Assumes nothing.
+use Prim.Native.Nat.{ℕ, zero, suc, _-_, _<_}
+use mathlib.Core.Bool.{true, false, cond, _||_, or-true}
+use mathlib.Core.Path.{_≡_, refl}
+use mathlib.Core.List.{List, [], _∷_}
+use native.Mathlib.Omega.{arith}
+use lib.Dec.{ltb, eqb, leb·suc-zero}
+use lib.ListN.{getD, getD-replicate}
+use borrow.Author.Tests.{le-leb, eq-eqb, eqb-true}
+use Rattle.commands.specs.declared.Init.{Init}
+use Rattle.commands.specs.declared.Setting.{Setting}
+use Rattle.commands.specs.Ranges.{within}
+use Rattle.commands.specs.Commands.{noSetting, settingSum, goodSetting, goodEntry, goodEntries}
+use Rattle.commands.proofs.Tests.{both}
+use Rattle.model.specs.declared.Profile.{Profile}
+use Rattle.model.specs.Channels.{inSet, many, silence, placed}
+use Rattle.model.specs.Timing.{keepsMain, largestMode, updateTiming}
+use Rattle.model.specs.Profiles.{overAt, overLimits}
+use Rattle.model.specs.Good.{goodAt, isZero, settingFits, fits}
+use Rattle.model.proofs.Tests.{_and_, either-way}
+use Rattle.model.proofs.Below.{all-below, none-below, row-at}
+
+-- a setting whose variables sum to 0 is good
+zero-good : (x : Setting) → isZero x ≡ true → goodSetting x ≡ true
+zero-good x e =
+    let h : settingSum x ≡ 0 = eqb-true (settingSum x) 0 e in
+    let w : eqb (x .width) 0 || within 10 (x .width) 500 ≡ true = rw (eq-eqb (x .width) 0 (omega arith)) in
+    le-leb (x .mode) 2 (omega arith) and (w and le-leb (x .current) 127 (omega arith))
+
+-- a zero setting is over no limit, and fits
+zero-under : (p : Profile) (i : ℕ) → overAt p i noSetting ≡ false
+unfolding overAt
+zero-under p i = rw (leb·suc-zero (getD (p .currents) i 0), leb·suc-zero (getD (p .widths) i 0), leb·suc-zero (p .charge))
+
+zero-fits : (p : Profile) (stim i : ℕ) → settingFits p stim i noSetting ≡ true
+unfolding settingFits goodAt
+zero-fits p stim i = rw (zero-under p i, or-true (inSet stim i))
+
+-- silence fits a list that keeps its timing rule with n = 1
+pub silence-fits : (p : Profile) (v : Init) → keepsMain v 1 ≡ true → fits p v silence ≡ true
+unfolding fits largestMode
+silence-fits p v e =
+    all-below 8 (λ i. settingFits p (v .stim) i (getD silence i noSetting))
+    (λ i h. rw (getD-replicate 8 i noSetting noSetting h) (zero-fits p (v .stim) i))
+    and e
+
+-- settings over no limit, one by one
+under : (p : Profile) (settings : List Setting) → overLimits p settings ≡ false → (i : ℕ) → i < 8
+    → overAt p i (getD settings i noSetting) ≡ false
+unfolding overLimits
+under p settings = none-below 8 (λ i. overAt p i (getD settings i noSetting))
+
+-- each entry of a good Update is good, whether listed or past the count
+entry-good : (entries : List Setting) (count i : ℕ) → goodEntries entries count ≡ true → goodSetting (getD entries i noSetting) ≡ true
+unfolding goodEntries
+entry-good [] count i e = refl
+entry-good (x ∷ entries) count zero e =
+    let h = both (goodEntry x (ltb 0 count)) (goodEntries entries (count - 1)) e .0 in
+    either-way (ltb 0 count) (λ t. rw t at h) (λ t. zero-good x (rw t at h))
+entry-good (x ∷ entries) count (suc i) e =
+    entry-good entries (count - 1) i (both (goodEntry x (ltb 0 count)) (goodEntries entries (count - 1)) e .1)
+
+-- what an Update asks for fits, where it is good, keeps the timing rule and is over no limit
+module _ (p : Profile) (v : Init) (entries : List Setting) (count : ℕ) where
+  -- what is asked for at channel i
+  abbrev at : ℕ → Setting
+  at i = cond (inSet (v .stim) i) (getD entries (many (v .stim) 0 i) noSetting) noSetting
+
+  -- at each channel
+  at-fits : goodEntries entries count ≡ true → (i : ℕ) → overAt p i (at i) ≡ false → settingFits p (v .stim) i (at i) ≡ true
+  unfolding settingFits goodAt
+  at-fits g i o =
+      either-way (inSet (v .stim) i)
+      (λ t. rw (o, t) (entry-good entries count (many (v .stim) 0 i) g and refl and refl))
+      (λ t. rw (o, t))
+
+  pub placed-fits : goodEntries entries count ≡ true → updateTiming v (placed (v .stim) entries) ≡ true
+      → overLimits p (placed (v .stim) entries) ≡ false → fits p v (placed (v .stim) entries) ≡ true
+  unfolding fits placed
+  placed-fits g t o =
+      all-below 8 (λ i. settingFits p (v .stim) i (getD (placed (v .stim) entries) i noSetting))
+      (λ i h.
+      let e : getD (placed (v .stim) entries) i noSetting ≡ at i = row-at 8 at noSetting i h in
+      rw e (at-fits g i (rw e at (under p (placed (v .stim) entries) o i h))))
+      and t

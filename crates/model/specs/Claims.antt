@@ -1,0 +1,62 @@
+-- What follows from document 01's machine, as statements. Each is proved in `proofs/Theorems`.
+use Prim.Native.Nat.{ℕ, _+_, _≤_, _<_}
+use mathlib.Core.Bool.{true, false, cond}
+use mathlib.Core.Path.{_≡_}
+use mathlib.Core.List.{List, [], _∷_, _++_}
+use lib.Dec.{ltb}
+use lib.ListN.{length, getD}
+use Rattle.commands.specs.declared.Init.{Init}
+use Rattle.commands.specs.declared.Setting.{Setting}
+use Rattle.commands.specs.Commands.{noSetting}
+use Rattle.trace.specs.declared.Record.{Record}
+use Rattle.model.specs.declared.Profile.{Profile}
+use Rattle.model.specs.declared.Run.{Run}
+use Rattle.model.specs.Profiles.{goodProfile}
+use Rattle.model.specs.Channels.{inSet}
+use Rattle.model.specs.Slots.{inTurn, firstDue}
+use Rattle.model.specs.State.{State, isRunning, still, fresh}
+use Rattle.model.specs.Effects.{pulse}
+use Rattle.model.specs.Ticks.{releases}
+use Rattle.model.specs.Machine.{Call, step, after}
+use Rattle.model.specs.Good.{goodRun, goodState}
+
+-- a call leaves a good state good, and so a box grown from a fresh one by any calls is good
+abbrev pub StepKeepsGood : Type 0
+StepKeepsGood = (p : Profile) (s : State) (c : Call) → goodProfile p ≡ true → goodState p s ≡ true → goodState p (step p s c .state) ≡ true
+
+abbrev pub AlwaysGood : Type 0
+AlwaysGood = (p : Profile) (cs : List Call) → goodProfile p ≡ true → goodState p (after p fresh cs) ≡ true
+
+-- the zeros of a box that is not running hold after every call
+abbrev pub Zeros : State → Type 0
+Zeros s = isRunning (s .core) ≡ false → s .core .run ≡ still
+
+abbrev pub StepKeepsZeros : Type 0
+StepKeepsZeros = (p : Profile) (s : State) (c : Call) → Zeros s → Zeros (step p s c .state)
+
+abbrev pub AlwaysZeros : Type 0
+AlwaysZeros = (p : Profile) (cs : List Call) → Zeros (after p fresh cs)
+
+-- N_Factor counts skips: a low frequency channel lets so many cycles pass, pulses in the next, and begins again
+pub record Skips (v : Init) (i : ℕ) : Type 0 where
+  pub skipped : (cycle : ℕ) → cycle < v .factor → inTurn v cycle i ≡ false
+  pub then-pulses : inTurn v (v .factor) i ≡ true
+  pub again : (cycle : ℕ) → inTurn v (cycle + (v .factor + 1)) i ≡ inTurn v cycle i
+
+abbrev pub CountsSkips : Type 0
+CountsSkips = (v : Init) (i : ℕ) → inSet (v .lf) i ≡ true → Skips v i
+
+-- the pulse of a channel; none where the channel's number is 8
+abbrev pub pulseOf : ℕ → Run → ℕ → List Record
+pulseOf clock r i =
+    let x : Setting = getD (r .settings) i noSetting in cond (ltb i 8) (pulse clock i (x .width) (x .current) ∷ []) []
+
+-- the pulses in a tick's two places are exactly the pulses due, A before B, none lost
+abbrev pub TwoPlaces : Type 0
+TwoPlaces =
+    (p : Profile) (now clock : ℕ) (r : Run) → goodRun p now r ≡ true
+    → releases clock r ≡ pulseOf clock r (firstDue r 0 4) ++ pulseOf clock r (firstDue r 4 4)
+
+-- a call releases at most two records
+abbrev pub AtMostTwo : Type 0
+AtMostTwo = (p : Profile) (s : State) (c : Call) → goodProfile p ≡ true → goodState p s ≡ true → length (step p s c .records) ≤ 2

@@ -1,0 +1,13 @@
+pub mod Below
+pub mod Channels
+pub mod Timing
+pub mod Slots
+pub mod Profiles
+pub mod State
+pub mod Judgement
+pub mod Effects
+pub mod Arrival
+pub mod Ticks
+pub mod Machine
+pub mod Good
+pub mod Claims

@@ -1,0 +1,45 @@
+// Document 01's machine, "Profile" and "The machine": its numbers. Its rules stand in specs/ as definitions, and what follows from
+// them in proofs/. No function stands here.
+use commands::Init;
+use commands::Setting;
+
+// The largest current and width of each channel, the largest charge, the shortest t1 and the watchdog.
+#[repr(C)]
+pub struct Profile {
+    pub currents: [u8; 8],
+    pub widths: [u16; 8],
+    pub charge: u32,
+    pub shortest: u16,
+    pub watchdog: u32,
+}
+
+// What a running list has, all zero while the box is not running. An update waits where `waits` is 1; `watch` is the watchdog count.
+#[repr(C)]
+pub struct Run {
+    pub list: Init,
+    pub settings: [Setting; 8],
+    pub waits: u8,
+    pub waiting: [Setting; 8],
+    pub position: u16,
+    pub cycle: u32,
+    pub watch: u32,
+}
+
+// The states.
+pub const IDLE: u8 = 0;
+
+pub const RUNNING: u8 = 1;
+
+pub const TRIPPED: u8 = 2;
+
+// The hold that a command puts on a module.
+pub const HOLD: u8 = 15;
+
+// The machine without its clock and its partial frame: the holds of modules A and B, and the state.
+#[repr(C)]
+pub struct Core {
+    pub holda: u8,
+    pub holdb: u8,
+    pub state: u8,
+    pub run: Run,
+}

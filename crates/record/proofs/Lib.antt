@@ -1,0 +1,7 @@
+pub mod States
+pub mod Zeros
+pub mod Lows
+pub mod Partials
+pub mod Joins
+pub mod Facts
+pub mod Carries

@@ -1,0 +1,16 @@
+-- Laws of a choice by state. Assumes nothing.
+use Prim.Native.Nat.{ℕ, zero, suc}
+use mathlib.Core.Path.{_≡_, refl}
+use Rattle.model.specs.State.{byState}
+
+-- idle and tripped alike: not running
+pub not-running : {A : Type 0} (k : ℕ) (still running : A) → (k ≡ 1 → ⊥) → byState k still running still ≡ still
+not-running zero still running n = refl
+not-running (suc zero) still running n = absurd (n refl)
+not-running (suc (suc k)) still running n = refl
+
+-- neither idle nor running: tripped
+pub when-tripped : {A : Type 0} (k : ℕ) (idle running tripped : A) → (k ≡ 0 → ⊥) → (k ≡ 1 → ⊥) → byState k idle running tripped ≡ tripped
+when-tripped zero idle running tripped n m = absurd (n refl)
+when-tripped (suc zero) idle running tripped n m = absurd (m refl)
+when-tripped (suc (suc k)) idle running tripped n m = refl

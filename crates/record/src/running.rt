@@ -1,0 +1,128 @@
+// A running list with its settings, and the zeros of a box that is not running.
+use super::limits;
+use commands::Init;
+use commands::Setting;
+use model::Core;
+use model::Profile;
+use model::Run;
+use schedule::timing;
+ghost use mathlib.Core.Bool.{cond};
+ghost use mathlib.Core.Path.{_≡_};
+ghost use lib.ListN.{getD};
+ghost use Rattle.commands.specs.Commands.{noSetting};
+ghost use Rattle.model.specs.Below.{allBelow};
+ghost use Rattle.model.specs.State.{isRunning};
+ghost use Rattle.model.specs.Good.{goodList, isZero, allZero, goodAt, fits, goodRun, zeroList, zeroRun, goodCore};
+
+fn good_list(v: Init) -> bool
+    ensures { λ r. ⌜ r ≡ goodList v ⌝ }
+{
+    commands::good_init(v)
+}
+
+fn is_zero(x: Setting) -> bool
+    ensures { λ r. ⌜ r ≡ isZero x ⌝ }
+{
+    x.mode as u32 + x.width as u32 + x.current as u32 == 0
+}
+
+fn all_zero(settings: [Setting; 8]) -> bool
+    ensures { λ r. ⌜ r ≡ allZero settings ⌝ }
+{
+    let mut zero = true;
+    let mut i = 0;
+    while i < 8 {
+        let x = settings[i];
+        zero = zero & is_zero(x);
+        i += 1;
+    }
+    zero
+}
+
+// Good, and zero where the channel is not listed.
+fn good_at(stim: u8, i: usize, x: Setting) -> bool
+    ensures { λ r. ⌜ r ≡ goodAt stim i x ⌝ }
+{
+    commands::good_setting(x) & (timing::listed(stim, i) | is_zero(x))
+}
+
+fn all_good(stim: u8, settings: [Setting; 8]) -> bool
+    ensures { λ r. ⌜ r ≡ allBelow 8 (λ i. goodAt stim i (getD settings i noSetting)) ⌝ }
+{
+    let mut good = true;
+    let mut i = 0;
+    while i < 8 {
+        let x = settings[i];
+        good = good & good_at(stim, i, x);
+        i += 1;
+    }
+    good
+}
+
+fn fit(p: Profile, v: Init, settings: [Setting; 8]) -> bool
+    ensures { λ r. ⌜ r ≡ fits p v settings ⌝ }
+{
+    all_good(v.stim, settings)
+        & !limits::over_limits(p, settings)
+        & timing::update_timing(v, settings)
+}
+
+fn good_run(p: Profile, clock: u32, r: Run) -> bool
+    ensures { λ o. ⌜ o ≡ goodRun p clock r ⌝ }
+{
+    let v = r.list;
+    let settings = r.settings;
+    let waiting = r.waiting;
+    let period = timing::main_period(v.main);
+    good_list(v)
+        & timing::init_timing(v)
+        & (p.shortest as u32 <= period)
+        & fit(p, v, settings)
+        & fit(p, v, waiting)
+        & (r.waits <= 1)
+        & ((r.waits == 1) | all_zero(waiting))
+        & ((r.position as u32) < period)
+        & (r.cycle <= clock)
+        & (r.watch < p.watchdog)
+}
+
+fn zero_list(v: Init) -> bool
+    ensures { λ o. ⌜ o ≡ zeroList v ⌝ }
+{
+    (v.factor == 0) & (v.stim == 0) & (v.lf == 0) & (v.group == 0) & (v.main == 0)
+}
+
+fn zero_run(r: Run) -> bool
+    ensures { λ o. ⌜ o ≡ zeroRun r ⌝ }
+{
+    let v = r.list;
+    let settings = r.settings;
+    let waiting = r.waiting;
+    zero_list(v)
+        & all_zero(settings)
+        & (r.waits == 0)
+        & all_zero(waiting)
+        & (r.position == 0)
+        & (r.cycle == 0)
+        & (r.watch == 0)
+}
+
+fn good_by_state(p: Profile, clock: u32, m: Core) -> bool
+    ensures { λ o. ⌜ o ≡ cond (isRunning m) (goodRun p clock (m .run)) (zeroRun (m .run)) ⌝ }
+{
+    let r = m.run;
+    if m.state == model::RUNNING {
+        return good_run(p, clock, r);
+    }
+    zero_run(r)
+}
+
+// The holds, the state, and the run that belongs to it.
+pub fn good_core(p: Profile, clock: u32, m: Core) -> bool
+    ensures { λ o. ⌜ o ≡ goodCore p clock m ⌝ }
+{
+    (m.holda <= model::HOLD)
+        & (m.holdb <= model::HOLD)
+        & (m.state <= model::TRIPPED)
+        & good_by_state(p, clock, m)
+}
