@@ -32,7 +32,8 @@ use Rattle.arrival.proofs.Wholes.{finished-whole}
 -- ---- any box
 
 -- a decided command closes the frame
-pub settled-as : (b : Box) (k answer : ℕ) (d : Done) → settled b (given (decided (b .clock) k answer d)) ≡ carried b (decided (b .clock) k answer d)
+pub settled-as : (b : Box) (k answer : ℕ) (d : Done)
+    → settled b (given (decided (b .clock) k answer d)) ≡ carried b (decided (b .clock) k answer d)
 unfolding given carried decided boxOf
 settled-as b k answer d = refl
 
@@ -48,17 +49,20 @@ kept-as b q = refl
 
 -- an Update's first byte, while a list runs and while none does
 module _ (b : Box) (n : ℕ) where
-  pub update-opens : b .core .state ≡ 1
-      → kept b (frameOf (record { bytes = n ∷ []; size = 1 + 3 * channels (b .core .run .list .stim) })) ≡ carried b (taken (b .profile) (stateOf b) (openedUpdate (b .core) n))
+  abbrev begun : Partial
+  begun = record { bytes = n ∷ []; size = 1 + 3 * channels (b .core .run .list .stim) }
+
+  pub update-opens : b .core .state ≡ 1 → kept b (frameOf begun) ≡ carried b (taken (b .profile) (stateOf b) (openedUpdate (b .core) n))
   update-opens e =
       let runs : isRunning (b .core) ≡ true = rw e in
-      kept-as b _ ∙ ap (λ (x : Bool). carried b (taken (b .profile) (stateOf b) (cond x (growing (record { bytes = n ∷ []; size = 1 + 3 * channels (b .core .run .list .stim) })) alone))) (sym runs)
+      kept-as b begun ∙ ap (λ (x : Bool). carried b (taken (b .profile) (stateOf b) (cond x (growing begun) alone))) (sym runs)
 
   pub update-alone : (b .core .state ≡ 1 → ⊥) → openedUpdate (b .core) n ≡ alone
   update-alone e = rw (not-running (b .core .state) false true e)
 
 -- a whole frame in its record
-pub ready : (f : PartialFrame) (q : Partial) → f ≡ frameOf q → length (q .bytes) ≤ 25 → Whole (q .bytes) → (f .len ≤ 25) × Whole (take (f .len) (f .bytes))
+pub ready : (f : PartialFrame) (q : Partial) → f ≡ frameOf q → length (q .bytes) ≤ 25 → Whole (q .bytes)
+    → (f .len ≤ 25) × Whole (take (f .len) (f .bytes))
 ready f q e h w = (rw (len-by f q e) h, rw (used-by f q e) w)
 
 -- what a high byte opens, by its Ident
@@ -81,12 +85,20 @@ module _ (m : Core) (n : ℕ) where
 
 -- ---- a low byte on a good box
 
--- the frame as it is with one byte more
+-- the frame with one byte more
 abbrev pub longer : Box → ℕ → Partial
 longer b n = record { bytes = take (b .partial .len) (b .partial .bytes) ++ n ∷ []; size = b .partial .kept }
 
+-- an open frame that a low byte follows: it grows in its record, and is whole by this byte or goes on
+pub record Followed (b : Box) (n : ℕ) : Type 0 where
+  pub room : b .partial .len < 25
+  pub fits : length (longer b n .bytes) ≤ 25
+  pub grows : grown (b .partial) n ≡ frameOf (longer b n)
+  pub finishes : n < 128 → b .partial .len + 1 ≡ b .partial .kept
+      → (followed (partialOf (b .partial)) n ≡ whole (longer b n .bytes)) × Whole (longer b n .bytes)
+  pub goes-on : (b .partial .len + 1 ≡ b .partial .kept → ⊥) → followed (partialOf (b .partial)) n ≡ growing (longer b n)
+
 module _ (b : Box) (l : length (b .partial .bytes) ≡ 25) (g : goodBox b ≡ true) (n : ℕ) where
-  -- bytes in use
   in-use : length (take (b .partial .len) (b .partial .bytes)) ≡ b .partial .len
   in-use = length-take-le _ (b .partial .bytes) (omega (arith, l, box-facts b g .len))
 
@@ -102,34 +114,34 @@ module _ (b : Box) (l : length (b .partial .bytes) ≡ 25) (g : goodBox b ≡ tr
       rw (none, back b l g)
 
   module _ (o : b .partial .len ≡ 0 → ⊥) where
-    pub is-open : OpenFrame (b .core) (b .partial .kept) (take (b .partial .len) (b .partial .bytes))
-    is-open = open-facts (b .core) (b .partial .kept) (take (b .partial .len) (b .partial .bytes)) good-partial (omega (arith, in-use, o))
+    is-open : OpenFrame (b .core) (b .partial .kept) (take (b .partial .len) (b .partial .bytes))
+    is-open = open-facts (b .core) (b .partial .kept) _ good-partial (omega (arith, in-use, o))
 
-    -- there is room for the byte
-    pub has-room : b .partial .len < 25
+    has-room : b .partial .len < 25
     has-room = omega (arith, is-open .shorter, in-use, size-most (b .core) _ (b .partial .kept) (is-open .sized))
 
-    pub longer-fits : length (longer b n .bytes) ≤ 25
-    longer-fits = omega (arith, length-append (take (b .partial .len) (b .partial .bytes)) (n ∷ []), in-use, has-room)
+    more : length (longer b n .bytes) ≡ b .partial .len + 1
+    more = length-append (take (b .partial .len) (b .partial .bytes)) (n ∷ []) ∙ ap (λ (k : ℕ). k + 1) in-use
 
-    pub grows : grown (b .partial) n ≡ frameOf (longer b n)
-    grows =
+    grows-to : grown (b .partial) n ≡ frameOf (longer b n)
+    grows-to =
         ap (λ (q : PartialFrame). grown q n) (sym (frame-back (b .partial) l (box-facts b g .unused)))
         ∙ grown-frame (partialOf (b .partial)) n (omega (arith, in-use, has-room))
 
-    follows : followed (partialOf (b .partial)) n ≡ cond (eqb (b .partial .len + 1) (b .partial .kept)) (whole (longer b n .bytes)) (growing (longer b n))
+    follows : followed (partialOf (b .partial)) n
+        ≡ cond (eqb (b .partial .len + 1) (b .partial .kept)) (whole (longer b n .bytes)) (growing (longer b n))
     unfolding followed lengthened
-    follows =
-        let some : (b .partial .kept ≡ 0 → ⊥) = λ e. omega (arith, is-open .shorter, e) in
-        let more : length (longer b n .bytes) ≡ b .partial .len + 1 = length-append (take (b .partial .len) (b .partial .bytes)) (n ∷ []) ∙ ap (λ (k : ℕ). k + 1) in-use in
-        rw (ne-eqb (b .partial .kept) 0 some, more)
+    follows = rw (ne-eqb (b .partial .kept) 0 (λ e. omega (arith, is-open .shorter, e)), more)
 
-    -- the frame is whole, or goes on
-    pub finishes : n < 128 → b .partial .len + 1 ≡ b .partial .kept → (followed (partialOf (b .partial)) n ≡ whole (longer b n .bytes)) × Whole (longer b n .bytes)
-    finishes h e = (
-      follows ∙ rw (eq-eqb (b .partial .len + 1) (b .partial .kept) e),
-      finished-whole (b .core) (b .partial .kept) (take (b .partial .len) (b .partial .bytes)) n is-open (omega (arith, in-use, o)) h (omega (arith, in-use, e)),
-    )
-
-    pub goes-on : (b .partial .len + 1 ≡ b .partial .kept → ⊥) → followed (partialOf (b .partial)) n ≡ growing (longer b n)
-    goes-on e = follows ∙ rw (ne-eqb (b .partial .len + 1) (b .partial .kept) e)
+    pub followed-by : Followed b n
+    followed-by =
+        record {
+          room = has-room;
+          fits = omega (arith, more, has-room);
+          grows = grows-to;
+          finishes = λ h e. (
+            follows ∙ rw (eq-eqb (b .partial .len + 1) (b .partial .kept) e),
+            finished-whole (b .core) (b .partial .kept) _ n is-open (omega (arith, in-use, o)) h (omega (arith, in-use, e)),
+          );
+          goes-on = λ e. follows ∙ rw (ne-eqb (b .partial .len + 1) (b .partial .kept) e);
+        }

@@ -23,12 +23,12 @@ use Rattle.record.proofs.Facts.{OpenFrame, low-no-high, size-most}
 use Rattle.effects.specs.Deciding.{toldCount, Whole}
 
 -- a high byte, low ones behind it, and so many bytes as its frame has
-pub record Framed (s : List ℕ) : Type 0 where
-  pub some : 0 < length s
-  pub most : length s ≤ 25
-  pub first-high : 128 ≤ getD s 0 0
-  pub rest-low : allLow (drop 1 s) ≡ true
-  pub sized : length s ≡ sizeFor (identIn s) (toldCount (length s))
+record Framed (s : List ℕ) : Type 0 where
+  some : 0 < length s
+  most : length s ≤ 25
+  first-high : 128 ≤ getD s 0 0
+  rest-low : allLow (drop 1 s) ≡ true
+  sized : length s ≡ sizeFor (identIn s) (toldCount (length s))
 
 -- the reader is told of one to eight channels
 counted : (n : ℕ) → n ≤ 25 → goodCount (toldCount n) ≡ true
@@ -38,7 +38,8 @@ counted n h =
     let l : 3 ≤ n = ltb-false n 3 e in
     rw (e, le-leb 1 (n / 3) (omega arith), le-leb (n / 3) 8 (omega arith)))
 
-pub framed-whole : (s : List ℕ) → Framed s → Whole s
+-- such bytes are a whole frame
+framed-whole : (s : List ℕ) → Framed s → Whole s
 framed-whole s f =
     let size = sizeFor (identIn s) (toldCount (length s)) in
     let all : take size s ≡ s = take-all size s (omega (arith, f .sized)) in
@@ -56,8 +57,6 @@ pub stop-whole : (n : ℕ) → 128 ≤ n → identIn (n ∷ []) ≡ 2 → Whole 
 stop-whole n h e =
     framed-whole (n ∷ []) (record { some = omega arith; most = omega arith; first-high = h; rest-low = refl; sized = rw e })
 
--- ---- a low byte that finishes an open frame
-
 -- a kept length is that of the frame that the reader is told of
 told-size : (m : Core) (k size : ℕ) → 2 ≤ size → goodSize m k size ≡ true → size ≡ sizeFor k (toldCount size)
 unfolding goodSize
@@ -74,7 +73,9 @@ told-size m k size h g = either-way (eqb k 1) (λ e. rw (eqb-true k 1 e) (by-sta
       let r : size % 3 ≡ 1 = eqb-true _ _ (p .1) in
       told (size / 3) (omega arith) (omega arith)
 
-pub finished-whole : (m : Core) (size : ℕ) (s : List ℕ) (n : ℕ) → OpenFrame m size s → 0 < length s → n < 128 → length s + 1 ≡ size → Whole (s ++ n ∷ [])
+-- a low byte finishes an open frame
+pub finished-whole : (m : Core) (size : ℕ) (s : List ℕ) (n : ℕ) → OpenFrame m size s → 0 < length s → n < 128 → length s + 1 ≡ size
+    → Whole (s ++ n ∷ [])
 finished-whole m size [] n f h l e = absurd (omega arith)
 finished-whole m size (b ∷ s) n f h l e =
     let more = length-append s (n ∷ []) in

@@ -1,3 +1,4 @@
 pub mod Pulses
 pub mod Verdicts
+pub mod Bytes
 pub mod Judged

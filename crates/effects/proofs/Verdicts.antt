@@ -1,25 +1,22 @@
 -- The judgement of a command of each kind, and what it comes to. Assumes nothing.
-use Prim.Native.Nat.{ℕ, zero, suc, _<_}
-use mathlib.Core.Bool.{Bool, true, false, cond, not}
+use Prim.Native.Nat.{ℕ}
+use mathlib.Core.Bool.{not}
 use mathlib.Core.Path.{_≡_, refl}
-use mathlib.Core.List.{List, [], _∷_, _++_}
-use native.Mathlib.Omega.{arith}
-use lib.Dec.{leb, ltb, eqb}
-use lib.ListN.{length, getD, set}
-use borrow.Author.Tests.{ne-eqb, le-leb}
+use mathlib.Core.List.{List, [], _∷_}
+use lib.Dec.{ltb}
+use lib.ListN.{set}
+use borrow.Author.Tests.{ne-eqb}
 use Rattle.commands.specs.declared.Init.{Init}
 use Rattle.commands.specs.declared.Setting.{Setting}
 use Rattle.commands.specs.declared.Single.{Single}
 use Rattle.commands.specs.Answers.{_when_, firstOf}
 use Rattle.commands.specs.Commands.{Command, Command.init, Command.update, Command.stop, Command.single, ident}
-use Rattle.frames.specs.Layout.{identIn, initWord, initOf, entryIn, entriesIn, singleIn, commandIn, checkIn}
-use Rattle.frames.specs.Reader.{shapeTests, valueTests, found, refused, readFrame}
 use Rattle.model.specs.declared.Profile.{Profile}
 use Rattle.model.specs.declared.Core.{Core}
 use Rattle.model.specs.Channels.{silence, placed}
 use Rattle.model.specs.Timing.{t1, initTiming, updateTiming}
 use Rattle.model.specs.Profiles.{overLimits}
-use Rattle.model.specs.State.{byState, isRunning, still}
+use Rattle.model.specs.State.{isRunning, still}
 use Rattle.model.specs.Judgement.{asked, breaksTiming, holdOf, inHold, overLimit}
 use Rattle.model.specs.Effects.{accept, carry}
 use Rattle.model.specs.Arrival.{decided}
@@ -27,7 +24,8 @@ use Rattle.effects.specs.Deciding.{dropped, drop, lateTests, late}
 
 -- ---- the tests of each kind
 
-pub init-tests : (p : Profile) (m : Core) (v : Init) → firstOf (lateTests p m (init v)) ≡ firstOf (5 when not (initTiming v) ∷ 9 when ltb (t1 (v .main)) (p .shortest) ∷ [])
+pub init-tests : (p : Profile) (m : Core) (v : Init)
+    → firstOf (lateTests p m (init v)) ≡ firstOf (5 when not (initTiming v) ∷ 9 when ltb (t1 (v .main)) (p .shortest) ∷ [])
 unfolding lateTests breaksTiming inHold overLimit
 init-tests p m v = refl
 
@@ -39,16 +37,17 @@ unfolding lateTests breaksTiming inHold overLimit asked
 update-tests p m count entries = refl
 
 pub single-tests : (p : Profile) (m : Core) (v : Single)
-    → firstOf (lateTests p m (single v))
-    ≡ firstOf (7 when isRunning m ∷ 8 when ltb 0 (holdOf m (v .channel)) ∷ 9 when overLimits p (set silence (v .channel) (record { mode = 0; width = v .width; current = v .current })) ∷ [])
+    → let settings : List Setting = set silence (v .channel) (record { mode = 0; width = v .width; current = v .current }) in
+    firstOf (lateTests p m (single v))
+    ≡ firstOf (7 when isRunning m ∷ 8 when ltb 0 (holdOf m (v .channel)) ∷ 9 when overLimits p settings ∷ [])
 unfolding lateTests breaksTiming inHold overLimit asked
 single-tests p m v = refl
 
-pub stop-tests : (p : Profile) (m : Core) → firstOf (lateTests p m stop) ≡ 0
+stop-tests : (p : Profile) (m : Core) → firstOf (lateTests p m stop) ≡ 0
 unfolding lateTests breaksTiming inHold overLimit
 stop-tests p m = refl
 
--- ---- what is given out, and what is not
+-- ---- what is carried out, and what is not
 
 module _ (p : Profile) (clock : ℕ) (m : Core) (c : Command) where
   pub carried-out : firstOf (lateTests p m c) ≡ 0 → decided clock (ident c) 0 (accept clock m c) ≡ late p clock m c
@@ -59,34 +58,9 @@ module _ (p : Profile) (clock : ℕ) (m : Core) (c : Command) where
   unfolding late carry dropped
   not-carried a e n = rw (← e, ne-eqb a 0 n)
 
--- a state from 2 on is that of a tripped box
-pub tripped-is : (k : ℕ) → leb 2 k ≡ byState k false false true
-tripped-is zero = refl
-tripped-is (suc zero) = refl
-tripped-is (suc (suc k)) = le-leb 2 (suc (suc k)) (omega arith)
-
 -- a Stop is accepted in any state
 pub stopped : (p : Profile) (clock : ℕ) (m : Core)
-    → decided clock 2 0 (record { core = record { holda = 15; holdb = 15; state = 0; run = still }; records = [] }) ≡ late p clock m stop
+    → decided clock 2 0 (record { core = record { holda = 15; holdb = 15; state = 0; run = still }; records = [] })
+    ≡ late p clock m stop
 unfolding accept
 stopped p clock m = carried-out p clock m stop (stop-tests p m)
-
--- no bytes, no first byte
-pub empty-first : (s : List ℕ) → length s ≡ 0 → 0 ≡ getD s 0 0
-empty-first [] e = refl
-empty-first (b ∷ s) e = absurd (omega arith)
-
--- a Channel_Number that is read has three bits
-pub channel-fits : (s : List ℕ) (count : ℕ) → readFrame s count .fields .single .channel < 8
-unfolding readFrame commandIn entryIn
-channel-fits s count = of (eqb a 0) (eqb (identIn s) 0) (eqb (identIn s) 1) (eqb (identIn s) 2) where
-  a : ℕ
-  a = firstOf (shapeTests s count ++ valueTests (checkIn s) (commandIn s count))
-
-  of : (done i u p : Bool)
-      → (cond done (found (cond i (init (initOf (initWord s))) (cond u (update count (entriesIn s count)) (cond p stop (single (singleIn s)))))) (refused a)) .fields .single .channel < 8
-  of false i u p = omega arith
-  of true true u p = omega arith
-  of true false true p = omega arith
-  of true false false true = omega arith
-  of true false false false = omega arith

@@ -7,7 +7,7 @@ ghost use mathlib.Core.Bool.{cond};
 ghost use mathlib.Core.Path.{_≡_};
 ghost use lib.Dec.{ltb};
 ghost use Rattle.model.specs.State.{still};
-ghost use Rattle.model.specs.Effects.{trip, withRun, fed, started, waited};
+ghost use Rattle.model.specs.Effects.{withRun, fed, started, waited};
 
 fn start(v: Init) -> Run
     ensures { λ r. ⌜ r ≡ started v ⌝ }
@@ -29,7 +29,7 @@ fn start(v: Init) -> Run
 }
 
 // What a box has that is not running.
-fn no_run() -> Run
+pub fn no_run() -> Run
     ensures { λ r. ⌜ r ≡ still ⌝ }
 {
     start(Init {
@@ -63,19 +63,6 @@ pub fn idle() -> Core
         holda: model::HOLD,
         holdb: model::HOLD,
         state: model::IDLE,
-        run,
-    }
-}
-
-// A trip keeps the holds.
-pub fn trip(m: Core) -> Core
-    ensures { λ r. ⌜ r ≡ trip m ⌝ }
-{
-    let run = no_run();
-    Core {
-        holda: m.holda,
-        holdb: m.holdb,
-        state: model::TRIPPED,
         run,
     }
 }

@@ -21,7 +21,7 @@ pub fn on_init(p: Profile, clock: u32, m: Core, v: Init) -> Decided
 {
     let answer = judgement::judge_init(p, v);
     if answer == answers::DONE {
-        return telling::tell(clock, idents::INIT, answer, cores::running(v));
+        return super::tell(clock, idents::INIT, answer, cores::running(v));
     }
     telling::drop_frame(clock, idents::INIT, answer, m)
 }
@@ -32,7 +32,7 @@ pub fn on_update(p: Profile, clock: u32, m: Core, entries: [Setting; 8]) -> Deci
     let settings = judgement::place(m.run.list.stim, entries);
     let answer = judgement::judge_update(p, m, settings);
     if answer == answers::DONE {
-        return telling::tell(clock, idents::UPDATE, answer, cores::wait(m, settings));
+        return super::tell(clock, idents::UPDATE, answer, cores::wait(m, settings));
     }
     telling::drop_frame(clock, idents::UPDATE, answer, m)
 }
@@ -45,7 +45,7 @@ fn accept_single(clock: u32, m: Core, v: Single) -> Decided
     if schedule::is_felt(v.width, v.current) {
         return telling::tell_pulse(clock, held, v.channel, v.width, v.current);
     }
-    telling::tell(clock, idents::SINGLE, answers::DONE, held)
+    super::tell(clock, idents::SINGLE, answers::DONE, held)
 }
 
 pub fn on_single(p: Profile, clock: u32, m: Core, v: Single) -> Decided

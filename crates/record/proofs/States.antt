@@ -1,6 +1,10 @@
 -- Laws of a choice by state. Assumes nothing.
 use Prim.Native.Nat.{ℕ, zero, suc}
+use mathlib.Core.Bool.{true, false}
 use mathlib.Core.Path.{_≡_, refl}
+use native.Mathlib.Omega.{arith}
+use lib.Dec.{leb}
+use borrow.Author.Tests.{le-leb}
 use Rattle.model.specs.State.{byState}
 
 -- idle and tripped alike: not running
@@ -14,3 +18,9 @@ pub when-tripped : {A : Type 0} (k : ℕ) (idle running tripped : A) → (k ≡ 
 when-tripped zero idle running tripped n m = absurd (n refl)
 when-tripped (suc zero) idle running tripped n m = absurd (m refl)
 when-tripped (suc (suc k)) idle running tripped n m = refl
+
+-- a state from 2 on is that of a tripped box
+pub tripped-is : (k : ℕ) → leb 2 k ≡ byState k false false true
+tripped-is zero = refl
+tripped-is (suc zero) = refl
+tripped-is (suc (suc k)) = le-leb 2 (suc (suc k)) (omega arith)

@@ -4,7 +4,7 @@ use borrow.Author.Needs.{needs}
 use borrow.Author.Tests.{le-leb, lt-leb}
 use Rattle.model.specs.Arrival.{taken}
 use Rattle.record.specs.Box.{stateOf}
-use Rattle.effects.proofs.Verdicts.{tripped-is}
+use Rattle.record.proofs.States.{tripped-is}
 use Rattle.arrival.proofs.Arrivals.{settled-as}
 use Rattle.arrival.proofs.alone.Statement.{statement}
 use Rattle.arrival.proofs.alone.Tie as tie
@@ -17,7 +17,10 @@ settle-requires c κs = search needs
 
 returns : tie.Need-returns
 unfolding taken stateOf
-returns c = let x = c .before .before .before .before .before .args .b in rw (sym (tripped-is (x .core .state)) ∙ le-leb _ _ (c .before .before .if1 .taken)) (cc (settled-as x 1 10 (record { core = x .core; records = [] })))
+returns c =
+    let x = c .before .before .before .before .before .args .b in
+    let tripped = sym (tripped-is (x .core .state)) ∙ le-leb _ _ (c .before .before .if1 .taken) in
+    rw tripped (cc (settled-as x 1 10 (record { core = x .core; records = [] })))
 
 tell-requires-2 : tie.Need-tell-requires-2
 tell-requires-2 c κs = search needs
@@ -27,7 +30,10 @@ settle-requires-2 c κs = search needs
 
 returns-2 : tie.Need-returns-2
 unfolding taken stateOf
-returns-2 c = let x = c .before .before .before .before .before .args .b in rw (sym (tripped-is (x .core .state)) ∙ lt-leb _ _ (c .before .before .if1 .left)) (cc (settled-as x 1 6 (record { core = x .core; records = [] })))
+returns-2 c =
+    let x = c .before .before .before .before .before .args .b in
+    let idle = sym (tripped-is (x .core .state)) ∙ lt-leb _ _ (c .before .before .if1 .left) in
+    rw idle (cc (settled-as x 1 6 (record { core = x .core; records = [] })))
 
 pub alone-spec : {M : Type 1} → statement M
 alone-spec =

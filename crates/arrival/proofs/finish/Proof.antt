@@ -23,7 +23,9 @@ settle-requires : tie.Need-settle-requires
 settle-requires c κs = search needs
 
 returns : tie.Need-returns
-returns c = let s = c .before .before .before .before .before .before in cc (whole-settled (s .args .b) (take (s .args .q .len) (s .args .q .bytes)) (s .pre .1))
+returns c =
+    let s = c .before .before .before .before .before .before in
+    cc (whole-settled (s .args .b) (take (s .args .q .len) (s .args .q .bytes)) (s .pre .1))
 
 pub finish-spec : {M : Type 1} → statement M
 finish-spec =

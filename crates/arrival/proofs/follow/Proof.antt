@@ -3,7 +3,7 @@ use lib.ListN.{length}
 use borrow.Author.Needs.{needs}
 use Rattle.record.specs.Box.{stateOf}
 use Rattle.arrival.proofs.Growing.{used-by}
-use Rattle.arrival.proofs.Arrivals.{kept-as, ready, longer, strays, has-room, longer-fits, grows, finishes, goes-on}
+use Rattle.arrival.proofs.Arrivals.{kept-as, ready, longer, strays, followed-by}
 use Rattle.arrival.proofs.follow.Statement.{statement}
 use Rattle.arrival.proofs.follow.Tie as tie
 
@@ -15,27 +15,31 @@ refuse-requires c κs = search needs
 
 returns : tie.Need-returns
 unfolding stateOf
-returns c = let s = c .before .before .before .before in c .refuse .ensures ∙ strays (s .args .b) (sized s) (s .pre .0) (s .args .n) (c .before .if1 .taken)
+returns c =
+    let s = c .before .before .before .before in
+    c .refuse .ensures ∙ strays (s .args .b) (sized s) (s .pre .0) (s .args .n) (c .before .if1 .taken)
 
 grow-requires : tie.Need-grow-requires
-grow-requires c κs = let s = c .before .before .before in has-room (s .args .b) (sized s) (s .pre .0) (s .args .n) (c .if1 .left)
+grow-requires c κs =
+    let s = c .before .before .before in
+    followed-by (s .args .b) (sized s) (s .pre .0) (s .args .n) (c .if1 .left) .room
 
 finish-requires : tie.Need-finish-requires
 finish-requires c κs =
     let s = c .before .before .before .before .before .before in
-    let o = c .before .before .before .if1 .left in
     let grow = c .before .before .grow in
-    let h = rw (grow .ensures) at (c .if2 .taken) in
-    ready (grow .result) (longer (s .args .b) (s .args .n)) (grow .ensures ∙ grows (s .args .b) (sized s) (s .pre .0) (s .args .n) o) (longer-fits (s .args .b) (sized s) (s .pre .0) (s .args .n) o) (finishes (s .args .b) (sized s) (s .pre .0) (s .args .n) o (s .pre .1) h .1)
+    let f = followed-by (s .args .b) (sized s) (s .pre .0) (s .args .n) (c .before .before .before .if1 .left) in
+    ready (grow .result) (longer (s .args .b) (s .args .n)) (grow .ensures ∙ f .grows) (f .fits)
+    (f .finishes (s .pre .1) (rw (grow .ensures) at (c .if2 .taken)) .1)
 
 returns-2 : tie.Need-returns-2
 unfolding stateOf
 returns-2 c =
     let s = c .before .before .before .before .before .before .before in
-    let o = c .before .before .before .before .if1 .left in
     let grow = c .before .before .before .grow in
-    let h = rw (grow .ensures) at (c .before .if2 .taken) in
-    c .finish .ensures ∙ rw (used-by (grow .result) (longer (s .args .b) (s .args .n)) (grow .ensures ∙ grows (s .args .b) (sized s) (s .pre .0) (s .args .n) o), finishes (s .args .b) (sized s) (s .pre .0) (s .args .n) o (s .pre .1) h .0)
+    let f = followed-by (s .args .b) (sized s) (s .pre .0) (s .args .n) (c .before .before .before .before .if1 .left) in
+    let bytes = used-by (grow .result) (longer (s .args .b) (s .args .n)) (grow .ensures ∙ f .grows) in
+    c .finish .ensures ∙ rw (bytes, f .finishes (s .pre .1) (rw (grow .ensures) at (c .before .if2 .taken)) .0)
 
 keep-requires : tie.Need-keep-requires
 keep-requires c κs = search needs
@@ -44,10 +48,10 @@ returns-3 : tie.Need-returns-3
 unfolding stateOf
 returns-3 c =
     let s = c .before .before .before .before .before .before .before in
-    let o = c .before .before .before .before .if1 .left in
     let grow = c .before .before .before .grow in
-    let h = rw (grow .ensures) at (c .before .if2 .left) in
-    c .keep .ensures ∙ rw (grow .ensures ∙ grows (s .args .b) (sized s) (s .pre .0) (s .args .n) o, goes-on (s .args .b) (sized s) (s .pre .0) (s .args .n) o h) (kept-as (s .args .b) (longer (s .args .b) (s .args .n)))
+    let f = followed-by (s .args .b) (sized s) (s .pre .0) (s .args .n) (c .before .before .before .before .if1 .left) in
+    c .keep .ensures
+    ∙ rw (grow .ensures ∙ f .grows, f .goes-on (rw (grow .ensures) at (c .before .if2 .left))) (kept-as (s .args .b) (longer (s .args .b) (s .args .n)))
 
 pub follow-spec : {M : Type 1} → statement M
 follow-spec =

@@ -16,7 +16,9 @@ open-update-requires : tie.Need-open-update-requires
 open-update-requires c κs = search needs
 
 returns : tie.Need-returns
-returns c = let s = c .before .before .before in c .open-update .ensures ∙ rw (opens-update (s .args .b .core) (s .args .n) (sym (c .before .before .ident-of .ensures) ∙ c .before .if1 .taken))
+returns c =
+    let a = c .before .before .before .args in
+    c .open-update .ensures ∙ rw (opens-update (a .b .core) (a .n) (sym (c .before .before .ident-of .ensures) ∙ c .before .if1 .taken))
 
 first-requires : tie.Need-first-requires
 first-requires c κs = search needs
@@ -25,16 +27,26 @@ keep-requires : tie.Need-keep-requires
 keep-requires c κs = search needs
 
 returns-2 : tie.Need-returns-2
-returns-2 c = let s = c .before .before .before .before .before in rw (opens-init (s .args .b .core) (s .args .n) (sym (c .before .before .before .before .ident-of .ensures) ∙ c .before .before .if2 .taken)) (cc (kept-as (s .args .b) (record { bytes = s .args .n ∷ []; size = 6 })))
+returns-2 c =
+    let a = c .before .before .before .before .before .args in
+    let opens = opens-init (a .b .core) (a .n) (sym (c .before .before .before .before .ident-of .ensures) ∙ c .before .before .if2 .taken) in
+    rw opens (cc (kept-as (a .b) (record { bytes = a .n ∷ []; size = 6 })))
 
 first-requires-2 : tie.Need-first-requires-2
 first-requires-2 c κs = search needs
 
 finish-requires : tie.Need-finish-requires
-finish-requires c κs = let s = c .before .before .before .before .before in ready (c .first2 .result) (record { bytes = s .args .n ∷ []; size = 1 }) (c .first2 .ensures) (omega arith) (stop-whole (s .args .n) (s .pre) (sym (c .before .before .before .before .ident-of .ensures) ∙ c .before .if3 .taken))
+finish-requires c κs =
+    let s = c .before .before .before .before .before in
+    let whole = stop-whole (s .args .n) (s .pre) (sym (c .before .before .before .before .ident-of .ensures) ∙ c .before .if3 .taken) in
+    ready (c .first2 .result) (record { bytes = s .args .n ∷ []; size = 1 }) (c .first2 .ensures) (omega arith) whole
 
 returns-3 : tie.Need-returns-3
-returns-3 c = let s = c .before .before .before .before .before .before in c .finish .ensures ∙ rw (used-by (c .before .first2 .result) (record { bytes = s .args .n ∷ []; size = 1 }) (c .before .first2 .ensures), opens-stop (s .args .b .core) (s .args .n) (sym (c .before .before .before .before .before .ident-of .ensures) ∙ c .before .before .if3 .taken))
+returns-3 c =
+    let a = c .before .before .before .before .before .before .args in
+    let byte = used-by (c .before .first2 .result) (record { bytes = a .n ∷ []; size = 1 }) (c .before .first2 .ensures) in
+    let opens = opens-stop (a .b .core) (a .n) (sym (c .before .before .before .before .before .ident-of .ensures) ∙ c .before .before .if3 .taken) in
+    c .finish .ensures ∙ rw (byte, opens)
 
 first-requires-3 : tie.Need-first-requires-3
 first-requires-3 c κs = search needs
@@ -43,7 +55,16 @@ keep-requires-2 : tie.Need-keep-requires-2
 keep-requires-2 c κs = search needs
 
 returns-4 : tie.Need-returns-4
-returns-4 c = let s = c .before .before .before .before .before .before in let i = c .before .before .before .before .before .ident-of .ensures in rw (opens-single (s .args .b .core) (s .args .n) (last-ident (s .args .n ∷ []) (λ e. c .before .before .before .if2 .left (i ∙ e)) (λ e. c .before .before .before .before .if1 .left (i ∙ e)) (λ e. c .before .before .if3 .left (i ∙ e)))) (cc (kept-as (s .args .b) (record { bytes = s .args .n ∷ []; size = 4 })))
+returns-4 c =
+    let a = c .before .before .before .before .before .before .args in
+    let i = c .before .before .before .before .before .ident-of .ensures in
+    let is-single =
+    last-ident (a .n ∷ [])
+    (λ e. c .before .before .before .if2 .left (i ∙ e))
+    (λ e. c .before .before .before .before .if1 .left (i ∙ e))
+    (λ e. c .before .before .if3 .left (i ∙ e)) in
+    let opens = opens-single (a .b .core) (a .n) is-single in
+    rw opens (cc (kept-as (a .b) (record { bytes = a .n ∷ []; size = 4 })))
 
 pub open-frame-spec : {M : Type 1} → statement M
 open-frame-spec =

@@ -9,16 +9,25 @@ refusal-requires : tie.Need-refusal-requires
 refusal-requires c κs = search needs
 
 arrive-requires : tie.Need-arrive-requires
-arrive-requires c κs = let s = c .before .before in good-taken (s .args .b) (s .args .ring) (c .before .refusal .result) (c .before .refusal .ensures) (c .if1 .taken)
+arrive-requires c κs =
+    let s = c .before .before in
+    let r = c .before .refusal in
+    good-taken (s .args .b) (s .args .ring) (r .result) (r .ensures) (c .if1 .taken)
 
 returns : tie.Need-returns
-returns c = let s = c .before .before .before in c .arrive .ensures ∙ call-taken (s .args .b) (s .args .ring) (c .before .before .refusal .result) (c .before .before .refusal .ensures) (byte (s .args .n)) (c .before .if1 .taken)
+returns c =
+    let s = c .before .before .before in
+    let r = c .before .before .refusal in
+    c .arrive .ensures ∙ call-taken (s .args .b) (s .args .ring) (r .result) (r .ensures) (byte (s .args .n)) (c .before .if1 .taken)
 
 refuse-requires : tie.Need-refuse-requires
 refuse-requires c κs = search needs
 
 returns-2 : tie.Need-returns-2
-returns-2 c = let s = c .before .before .before in c .refuse .ensures ∙ call-refused (s .args .b) (s .args .ring) (c .before .before .refusal .result) (c .before .before .refusal .ensures) (byte (s .args .n)) (c .before .if1 .left)
+returns-2 c =
+    let s = c .before .before .before in
+    let r = c .before .before .refusal in
+    c .refuse .ensures ∙ call-refused (s .args .b) (s .args .ring) (r .result) (r .ensures) (byte (s .args .n)) (c .before .if1 .left)
 
 pub take-byte-spec : {M : Type 1} → statement M
 take-byte-spec =

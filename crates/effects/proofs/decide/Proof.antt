@@ -1,5 +1,5 @@
 use borrow.Author.Needs.{needs}
-use Rattle.effects.proofs.Verdicts.{channel-fits}
+use Rattle.effects.proofs.Bytes.{channel-fits}
 use Rattle.effects.proofs.decide.Statement.{statement}
 use Rattle.effects.proofs.decide.Tie as tie
 

@@ -20,21 +20,30 @@ drop-frame-requires-2 c κs = search needs
 
 returns-2 : tie.Need-returns-2
 unfolding decideRead
-returns-2 c = simp (ne-eqb _ _ (c .before .before .before .if1 .left), sym (c .before .before .is-shut .ensures) ∙ c .before .if2 .taken) (cc)
+returns-2 c =
+    let right = ne-eqb _ _ (c .before .before .before .if1 .left) in
+    let shut = sym (c .before .before .is-shut .ensures) ∙ c .before .if2 .taken in
+    simp (right, shut) (cc)
 
 on-command-requires : tie.Need-on-command-requires
 on-command-requires c κs = search needs
 
 returns-3 : tie.Need-returns-3
 unfolding decideRead
-returns-3 c = simp (ne-eqb _ _ (c .before .before .before .before .before .if1 .left), sym (c .before .before .before .before .is-shut .ensures) ∙ c .before .before .before .if2 .left, eq-eqb _ _ (c .before .if3 .taken)) (cc)
+returns-3 c =
+    let right = ne-eqb _ _ (c .before .before .before .before .before .if1 .left) in
+    let open-to = sym (c .before .before .before .before .is-shut .ensures) ∙ c .before .before .before .if2 .left in
+    simp (right, open-to, eq-eqb _ _ (c .before .if3 .taken)) (cc)
 
 drop-frame-requires-3 : tie.Need-drop-frame-requires-3
 drop-frame-requires-3 c κs = search needs
 
 returns-4 : tie.Need-returns-4
 unfolding decideRead
-returns-4 c = simp (ne-eqb _ _ (c .before .before .before .before .before .if1 .left), sym (c .before .before .before .before .is-shut .ensures) ∙ c .before .before .before .if2 .left, ne-eqb _ _ (c .before .if3 .left)) (cc)
+returns-4 c =
+    let right = ne-eqb _ _ (c .before .before .before .before .before .if1 .left) in
+    let open-to = sym (c .before .before .before .before .is-shut .ensures) ∙ c .before .before .before .if2 .left in
+    simp (right, open-to, ne-eqb _ _ (c .before .if3 .left)) (cc)
 
 pub decide-read-spec : {M : Type 1} → statement M
 decide-read-spec =

@@ -1,5 +1,5 @@
 use borrow.Author.Needs.{needs}
-use Rattle.effects.proofs.Verdicts.{empty-first}
+use Rattle.effects.proofs.Bytes.{empty-first}
 use Rattle.effects.proofs.first_of.Statement.{statement}
 use Rattle.effects.proofs.first_of.Tie as tie
 

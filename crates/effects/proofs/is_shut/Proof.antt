@@ -1,4 +1,4 @@
-use Rattle.effects.proofs.Verdicts.{tripped-is}
+use Rattle.record.proofs.States.{tripped-is}
 use Rattle.effects.proofs.is_shut.Statement.{statement}
 use Rattle.effects.proofs.is_shut.Tie as tie
 

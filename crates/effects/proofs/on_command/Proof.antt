@@ -23,13 +23,18 @@ tell-requires : tie.Need-tell-requires
 tell-requires c κs = search needs
 
 returns-3 : tie.Need-returns-3
-returns-3 c = let a = c .before .before .before .before .before .args in simp (ne-eqb _ _ (c .before .before .before .before .if1 .left), ne-eqb _ _ (c .before .before .before .if2 .left), eq-eqb _ _ (c .before .before .if3 .taken)) (cc (stopped (a .p) (a .clock) (a .m)))
+returns-3 c =
+    let a = c .before .before .before .before .before .args in
+    simp (ne-eqb _ _ (c .before .before .before .before .if1 .left), ne-eqb _ _ (c .before .before .before .if2 .left), eq-eqb _ _ (c .before .before .if3 .taken))
+    (cc (stopped (a .p) (a .clock) (a .m)))
 
 on-single-requires : tie.Need-on-single-requires
 on-single-requires c κs = search needs
 
 returns-4 : tie.Need-returns-4
-returns-4 c = simp (ne-eqb _ _ (c .before .before .before .if1 .left), ne-eqb _ _ (c .before .before .if2 .left), ne-eqb _ _ (c .before .if3 .left)) (cc)
+returns-4 c =
+    simp (ne-eqb _ _ (c .before .before .before .if1 .left), ne-eqb _ _ (c .before .before .if2 .left), ne-eqb _ _ (c .before .if3 .left))
+    (cc)
 
 pub on-command-spec : {M : Type 1} → statement M
 on-command-spec =

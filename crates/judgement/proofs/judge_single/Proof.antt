@@ -13,7 +13,10 @@ hold-of-requires : tie.Need-hold-of-requires
 hold-of-requires c κs = search needs
 
 returns-2 : tie.Need-returns-2
-returns-2 c = simp (not-running _ false true (c .before .before .if1 .left), lt-ltb _ _ (rw (c .before .hold-of .ensures) at (c .if2 .taken))) (cc)
+returns-2 c =
+    let rests = not-running _ false true (c .before .before .if1 .left) in
+    let held = lt-ltb _ _ (rw (c .before .hold-of .ensures) at (c .if2 .taken)) in
+    simp (rests, held) (cc)
 
 single-settings-requires : tie.Need-single-settings-requires
 single-settings-requires c κs = search needs
@@ -22,10 +25,18 @@ over-limits-requires : tie.Need-over-limits-requires
 over-limits-requires c κs = search needs
 
 returns-3 : tie.Need-returns-3
-returns-3 c = simp (not-running _ false true (c .before .before .before .before .before .if1 .left), le-ltb _ _ (rw (c .before .before .before .before .hold-of .ensures) at (c .before .before .before .if2 .left)), rw (c .before .before .single-settings .ensures) at (sym (c .before .over-limits .ensures) ∙ c .if3 .taken)) (cc)
+returns-3 c =
+    let rests = not-running _ false true (c .before .before .before .before .before .if1 .left) in
+    let free = le-ltb _ _ (rw (c .before .before .before .before .hold-of .ensures) at (c .before .before .before .if2 .left)) in
+    let over = rw (c .before .before .single-settings .ensures) at (sym (c .before .over-limits .ensures) ∙ c .if3 .taken) in
+    simp (rests, free, over) (cc)
 
 returns-4 : tie.Need-returns-4
-returns-4 c = simp (not-running _ false true (c .before .before .before .before .before .if1 .left), le-ltb _ _ (rw (c .before .before .before .before .hold-of .ensures) at (c .before .before .before .if2 .left)), rw (c .before .before .single-settings .ensures) at (sym (c .before .over-limits .ensures) ∙ c .if3 .left)) (cc)
+returns-4 c =
+    let rests = not-running _ false true (c .before .before .before .before .before .if1 .left) in
+    let free = le-ltb _ _ (rw (c .before .before .before .before .hold-of .ensures) at (c .before .before .before .if2 .left)) in
+    let within = rw (c .before .before .single-settings .ensures) at (sym (c .before .over-limits .ensures) ∙ c .if3 .left) in
+    simp (rests, free, within) (cc)
 
 pub judge-single-spec : {M : Type 1} → statement M
 judge-single-spec =

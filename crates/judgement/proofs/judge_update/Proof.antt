@@ -12,10 +12,16 @@ over-limits-requires : tie.Need-over-limits-requires
 over-limits-requires c κs = search needs
 
 returns : tie.Need-returns
-returns c = simp (c .before .before .before .before .before .if1 .taken, sym (c .before .before .before .update-timing .ensures) ∙ c .before .before .if2 .taken, sym (c .before .over-limits .ensures) ∙ c .if3 .taken) (cc)
+returns c =
+    let timely = sym (c .before .before .before .update-timing .ensures) ∙ c .before .before .if2 .taken in
+    let over = sym (c .before .over-limits .ensures) ∙ c .if3 .taken in
+    simp (c .before .before .before .before .before .if1 .taken, timely, over) (cc)
 
 returns-2 : tie.Need-returns-2
-returns-2 c = simp (c .before .before .before .before .before .if1 .taken, sym (c .before .before .before .update-timing .ensures) ∙ c .before .before .if2 .taken, sym (c .before .over-limits .ensures) ∙ c .if3 .left) (cc)
+returns-2 c =
+    let timely = sym (c .before .before .before .update-timing .ensures) ∙ c .before .before .if2 .taken in
+    let within = sym (c .before .over-limits .ensures) ∙ c .if3 .left in
+    simp (c .before .before .before .before .before .if1 .taken, timely, within) (cc)
 
 returns-3 : tie.Need-returns-3
 returns-3 c = simp (c .before .before .before .if1 .taken, sym (c .before .update-timing .ensures) ∙ c .if2 .left) (cc)

@@ -11,7 +11,8 @@ use Rattle.judgement.proofs.place.Statement.{statement}
 use Rattle.judgement.proofs.place.Tie as tie
 
 abbrev Inv-loop : tie.InvT-loop
-Inv-loop stim entries settings₀ next₀ i₀ settings next i = (i ≤ 8) × (length settings ≡ 8) × (next ≡ many stim 0 i) × (next ≤ i) × (settings ≡ placedTo stim entries i)
+Inv-loop stim entries settings₀ next₀ i₀ settings next i =
+    (i ≤ 8) × (length settings ≡ 8) × (next ≡ many stim 0 i) × (next ≤ i) × (settings ≡ placedTo stim entries i)
 
 abbrev μ-loop : tie.MeasureT-loop
 μ-loop stim entries settings₀ next₀ i₀ settings next i = 8 - i
@@ -49,8 +50,14 @@ loop-again c =
     let l = c .before .before .before .before .loop in
     let a = c .before .before .before .before .before .before .args in
     let here = c .before .before .listed .ensures in
-    let turn = many-turn (l .i) (a .stim) 0 (c .before .before .listed .result) (rw zero-add here) in
-    (omega arith, rw length-set (l .inv .1), c .after .ensures .0 ∙ rw (l .inv .2) (sym turn), omega arith, rw (c .before .entry-for .ensures, here, l .inv .2) (place-turn (a .stim) (a .entries) (l .settings) (l .i) (c .before .before .before .loop-test .taken) (l .inv .4)))
+    let counted = many-turn (l .i) (a .stim) 0 (c .before .before .listed .result) (rw zero-add here) in
+    let placed = place-turn (a .stim) (a .entries) (l .settings) (l .i) (c .before .before .before .loop-test .taken) (l .inv .4) in (
+      omega arith,
+      rw length-set (l .inv .1),
+      c .after .ensures .0 ∙ rw (l .inv .2) (sym counted),
+      omega arith,
+      rw (c .before .entry-for .ensures, here, l .inv .2) placed,
+    )
 
 returns : tie.Need-returns Inv-loop μ-loop
 returns c =

@@ -20,7 +20,9 @@ returns : tie.Need-returns
 returns c = cc
 
 returns-2 : tie.Need-returns-2
-returns-2 c = cc (set-out silence (c .before .before .before .args .v .channel) (record { mode = 0; width = c .before .before .before .args .v .width; current = c .before .before .before .args .v .current }) (search needs))
+returns-2 c =
+    let v = c .before .before .before .args .v in
+    cc (set-out silence (v .channel) (record { mode = 0; width = v .width; current = v .current }) (search needs))
 
 pub single-settings-spec : {M : Type 1} → statement M
 single-settings-spec =

@@ -1,6 +1,6 @@
 use borrow.Author.Needs.{needs}
-use Rattle.effects.proofs.cores.trip.Statement.{statement}
-use Rattle.effects.proofs.cores.trip.Tie as tie
+use Rattle.effects.proofs.trip.Statement.{statement}
+use Rattle.effects.proofs.trip.Tie as tie
 
 no-run-requires : tie.Need-no-run-requires
 no-run-requires c κs = search needs
