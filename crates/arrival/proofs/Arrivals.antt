@@ -14,7 +14,7 @@ use Rattle.model.specs.Channels.{channels}
 use Rattle.model.specs.State.{Partial, isRunning}
 use Rattle.model.specs.Effects.{Done}
 use Rattle.model.specs.Good.{goodPartial}
-use Rattle.model.specs.Arrival.{Arrival.stray, Arrival.alone, Arrival.growing, Arrival.whole, lengthened, opened, followed, decided, judged, taken}
+use Rattle.model.specs.Arrival.{Arrival.stray, Arrival.alone, Arrival.growing, Arrival.whole, lengthened, openedUpdate, opened, followed, decided, judged, taken}
 use Rattle.record.specs.declared.Box.{Box}
 use Rattle.record.specs.declared.PartialFrame.{PartialFrame}
 use Rattle.record.specs.Box.{partialOf, stateOf, frameOf, boxOf, goodBox}
@@ -25,7 +25,7 @@ use Rattle.machine.specs.Said.{pulseOf, saidOf}
 use Rattle.machine.specs.Step.{refused, carried}
 use Rattle.effects.specs.Deciding.{decideFrame, given, Whole}
 use Rattle.effects.proofs.Judged.{whole-decided}
-use Rattle.arrival.specs.Arriving.{grown, kept, openedUpdate, settled}
+use Rattle.arrival.specs.Arriving.{grown, unfinished, settled}
 use Rattle.arrival.proofs.Growing.{grown-frame, used-by, len-by}
 use Rattle.arrival.proofs.Wholes.{finished-whole}
 
@@ -43,7 +43,7 @@ unfolding judged taken stateOf
 whole-settled b s w = rw (whole-decided (b .profile) (b .clock) (b .core) s w) (settled-as b _ _ _)
 
 -- 1: the byte is kept
-pub kept-as : (b : Box) (q : Partial) → kept b (frameOf q) ≡ carried b (taken (b .profile) (stateOf b) (growing q))
+pub kept-as : (b : Box) (q : Partial) → unfinished b (frameOf q) ≡ carried b (taken (b .profile) (stateOf b) (growing q))
 unfolding taken carried saidOf pulseOf boxOf stateOf
 kept-as b q = refl
 
@@ -52,7 +52,7 @@ module _ (b : Box) (n : ℕ) where
   abbrev begun : Partial
   begun = record { bytes = n ∷ []; size = 1 + 3 * channels (b .core .run .list .stim) }
 
-  pub update-opens : b .core .state ≡ 1 → kept b (frameOf begun) ≡ carried b (taken (b .profile) (stateOf b) (openedUpdate (b .core) n))
+  pub update-opens : b .core .state ≡ 1 → unfinished b (frameOf begun) ≡ carried b (taken (b .profile) (stateOf b) (openedUpdate (b .core) n))
   update-opens e =
       let runs : isRunning (b .core) ≡ true = rw e in
       kept-as b begun ∙ ap (λ (x : Bool). carried b (taken (b .profile) (stateOf b) (cond x (growing begun) alone))) (sym runs)

@@ -20,18 +20,13 @@ abbrev pub grown : PartialFrame → ℕ → PartialFrame
 grown q n = record { bytes = set (q .bytes) (q .len) n; len = q .len + 1; kept = q .kept }
 
 -- 1: the byte is kept
-abbrev pub kept : Box → PartialFrame → Stepped
-kept b q =
+abbrev pub unfinished : Box → PartialFrame → Stepped
+unfinished b q =
     record {
       said = record { answer = 1; reply = 0; a = nothing; b = nothing };
       records = recordsOf [];
       next = record { profile = b .profile; clock = b .clock; core = b .core; partial = q; ring = b .ring };
     }
-
--- an Update's first byte
-abbrev pub openedUpdate : Core → ℕ → Arrival
-openedUpdate m n =
-    cond (isRunning m) (growing (record { bytes = n ∷ []; size = sizeFor 1 (channels (m .run .list .stim)) })) alone
 
 -- a decided command closes the frame
 abbrev pub settled : Box → Decided → Stepped

@@ -13,11 +13,11 @@ ghost use mathlib.Core.List.{[], _∷_};
 ghost use Prim.Native.Nat.{_≤_, _<_};
 ghost use lib.ListN.{take};
 ghost use Rattle.model.specs.State.{noFrame};
-ghost use Rattle.model.specs.Arrival.{taken, opened, followed, Arrival.alone, Arrival.whole};
+ghost use Rattle.model.specs.Arrival.{taken, openedUpdate, opened, followed, Arrival.alone, Arrival.whole};
 ghost use Rattle.model.specs.Machine.{step, Call.byte};
 ghost use Rattle.record.specs.Box.{stateOf, frameOf, goodBox};
 ghost use Rattle.machine.specs.Step.{carried, stepOf};
-ghost use Rattle.arrival.specs.Arriving.{grown, kept, openedUpdate, settled};
+ghost use Rattle.arrival.specs.Arriving.{grown, unfinished, settled};
 ghost use Rattle.effects.specs.Deciding.{Whole};
 
 // The first byte of a frame of this length.
@@ -50,7 +50,7 @@ fn grow(q: PartialFrame, n: u8) -> PartialFrame
 
 // 1: the byte is kept.
 fn keep(b: Box, q: PartialFrame) -> Stepped
-    ensures { λ r. ⌜ r ≡ kept b q ⌝ }
+    ensures { λ r. ⌜ r ≡ unfinished b q ⌝ }
 {
     let mut next = b;
     next.partial = q;

@@ -23,7 +23,7 @@ use Rattle.model.specs.Judgement.{asked, isUpdate, isSingle, breaksTiming, inHo
 use Rattle.model.specs.Effects.{accept, carry}
 use Rattle.model.specs.Arrival.{decided, commandOf, judged}
 use Rattle.model.proofs.Tests.{either-way}
-use Rattle.effects.specs.Deciding.{dropped, drop, lateTests, late, commandFrom, decideRead, toldCount, decideFrame, Whole}
+use Rattle.effects.specs.Deciding.{dropFrame, lateTests, late, commandFrom, decideRead, toldCount, decideFrame, Whole}
 
 -- what an Update asks for does not depend on its count
 same-late : (p : Profile) (clock : ℕ) (m : Core) (c : Command) → late p clock m (commandFrom (ident c) (fieldsOf c)) ≡ late p clock m c
@@ -37,11 +37,11 @@ same-late p clock m (single v) = refl
 by-tests : (p : Profile) (clock : ℕ) (m : Core) (c : Command) (right shut fine : Bool)
     → let r : Read = answered (firstOf (3 when not right ∷ 4 when not fine ∷ [])) c in
     let a : ℕ = cond (not right) 3 (cond shut 10 (cond (not fine) 4 (firstOf (lateTests p m c)))) in
-    cond (eqb (r .answer) 3) (drop clock m (ident c) 3)
-    (cond shut (drop clock m (ident c) 10)
-    (cond (eqb (r .answer) 0) (late p clock m (commandFrom (ident c) (r .fields))) (drop clock m (ident c) 4)))
+    cond (eqb (r .answer) 3) (dropFrame clock m (ident c) 3)
+    (cond shut (dropFrame clock m (ident c) 10)
+    (cond (eqb (r .answer) 0) (late p clock m (commandFrom (ident c) (r .fields))) (dropFrame clock m (ident c) 4)))
     ≡ decided clock (ident c) a (carry clock m c a)
-unfolding dropped carry late
+unfolding carry late
 by-tests p clock m c false shut fine = refl
 by-tests p clock m c true true true = refl
 by-tests p clock m c true true false = refl

@@ -20,7 +20,7 @@ use Rattle.model.specs.State.{isRunning, still}
 use Rattle.model.specs.Judgement.{asked, breaksTiming, holdOf, inHold, overLimit}
 use Rattle.model.specs.Effects.{accept, carry}
 use Rattle.model.specs.Arrival.{decided}
-use Rattle.effects.specs.Deciding.{dropped, drop, lateTests, late}
+use Rattle.effects.specs.Deciding.{dropFrame, lateTests, late}
 
 -- ---- the tests of each kind
 
@@ -54,8 +54,8 @@ module _ (p : Profile) (clock : ℕ) (m : Core) (c : Command) where
   unfolding late carry
   carried-out e = rw e
 
-  pub not-carried : (a : ℕ) → a ≡ firstOf (lateTests p m c) → (a ≡ 0 → ⊥) → drop clock m (ident c) a ≡ late p clock m c
-  unfolding late carry dropped
+  pub not-carried : (a : ℕ) → a ≡ firstOf (lateTests p m c) → (a ≡ 0 → ⊥) → dropFrame clock m (ident c) a ≡ late p clock m c
+  unfolding late carry
   not-carried a e n = rw (← e, ne-eqb a 0 n)
 
 -- a Stop is accepted in any state

@@ -1,7 +1,7 @@
 -- How the box decides a frame that the reader of frames has read.
 use Prim.Native.Nat.{ℕ, _/_}
-use mathlib.Core.Bool.{Bool, cond, not, _&&_, _||_}
-use mathlib.Core.List.{List, [], _∷_}
+use mathlib.Core.Bool.{cond, _&&_, _||_}
+use mathlib.Core.List.{List, [], _∷_, _++_}
 use mathlib.Core.Path.{_≡_}
 use lib.Dec.{leb, ltb, eqb}
 use lib.ListN.{length}
@@ -14,32 +14,22 @@ use Rattle.frames.specs.Reader.{shapeTests, readFrame}
 use Rattle.commands.specs.Reply.{reply}
 use Rattle.model.specs.declared.Profile.{Profile}
 use Rattle.model.specs.declared.Core.{Core}
-use Rattle.model.specs.State.{isRunning, isTripped}
-use Rattle.model.specs.Judgement.{isUpdate, isSingle, breaksTiming, inHold, overLimit}
-use Rattle.model.specs.Effects.{Done, tripped, withRun, fed, carry}
+use Rattle.model.specs.State.{isTripped}
+use Rattle.model.specs.Judgement.{lateRefusals, overLimit}
+use Rattle.model.specs.Effects.{Done, dropped, carry}
 use Rattle.model.specs.Arrival.{Result, decided}
 use Rattle.machine.specs.declared.Released.{Released}
 use Rattle.machine.specs.declared.Said.{Said}
 use Rattle.machine.specs.Said.{nothing, saidOf, recordsOf}
 use Rattle.effects.specs.declared.Decided.{Decided}
 
--- a command that is not carried out: 9 trips the box, 3 leaves it, any other answer feeds the watchdog
-unfoldable pub dropped : ℕ → Core → ℕ → Done
-dropped clock m answer =
-    cond (eqb answer 9) (tripped clock 1 m) (record { core = cond (eqb answer 3) m (withRun m (fed (m .run))); records = [] })
-
-abbrev pub drop : ℕ → Core → ℕ → ℕ → Result
-drop clock m k answer = decided clock k answer (dropped clock m answer)
+-- a command that is not carried out
+abbrev pub dropFrame : ℕ → Core → ℕ → ℕ → Result
+dropFrame clock m k answer = decided clock k answer (dropped clock m answer)
 
 -- the tests behind 3, 10 and 4
 unfoldable pub lateTests : Profile → Core → Command → List Test
-lateTests p m c =
-    6 when (isUpdate c && not (isRunning m))
-    ∷ 7 when (isSingle c && isRunning m)
-    ∷ 5 when breaksTiming m c
-    ∷ 8 when inHold m c
-    ∷ 9 when overLimit p m c
-    ∷ []
+lateTests p m c = lateRefusals m c ++ 9 when overLimit p m c ∷ []
 
 unfoldable pub late : Profile → ℕ → Core → Command → Result
 late p clock m c =
@@ -52,9 +42,9 @@ commandFrom k f = byIdent k (init (f .init)) (update 0 (f .entries)) stop (singl
 -- 3; 10; 4; then the others
 unfoldable pub decideRead : Profile → ℕ → Core → ℕ → Read → Result
 decideRead p clock m k r =
-    cond (eqb (r .answer) 3) (drop clock m k 3)
-    (cond ((eqb k 1 || eqb k 3) && isTripped m) (drop clock m k 10)
-    (cond (eqb (r .answer) 0) (late p clock m (commandFrom k (r .fields))) (drop clock m k 4)))
+    cond (eqb (r .answer) 3) (dropFrame clock m k 3)
+    (cond ((eqb k 1 || eqb k 3) && isTripped m) (dropFrame clock m k 10)
+    (cond (eqb (r .answer) 0) (late p clock m (commandFrom k (r .fields))) (dropFrame clock m k 4)))
 
 -- an accepted Single's pulse in the place of its module
 abbrev pub sayPulse : Released → Said
@@ -64,7 +54,8 @@ sayPulse x = record { answer = 0; reply = reply 3 0; a = cond (leb (x .channel) 
 abbrev pub toldCount : ℕ → ℕ
 toldCount size = cond (ltb size 3) 1 (size / 3)
 
--- any bytes, as the reader reads them
+-- any bytes, as the reader reads them: those that are no whole frame are refused with 4, or 10; the box hands over whole frames
+-- alone
 abbrev pub decideFrame : Profile → ℕ → Core → List ℕ → Result
 decideFrame p clock m s = decideRead p clock m (identIn s) (readFrame s (toldCount (length s)))
 

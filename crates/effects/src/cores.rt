@@ -106,7 +106,7 @@ pub fn hold(m: Core, channel: u8) -> Core
     ensures { λ r. ⌜ r ≡ record { holda = cond (ltb channel 4) 15 (m .holda); holdb = cond (ltb channel 4) (m .holdb) 15; state = m .state; run = fed (m .run) } ⌝ }
 {
     let run = fed(m.run);
-    if channel < 4 {
+    if channel < model::MODULE {
         return Core {
             holda: model::HOLD,
             holdb: m.holdb,

@@ -60,7 +60,8 @@ fn entry_for(listed: bool, entries: [Setting; 8], next: usize) -> Setting
     }
 }
 
-fn after(next: usize, listed: bool) -> usize
+// Which entry is next behind this channel.
+fn entry_after(next: usize, listed: bool) -> usize
     requires { ⌜ next < 8 ⌝ }
     ensures { λ r. ⌜ (r ≡ next + cond listed 1 0) × (r ≤ next + 1) ⌝ }
 {
@@ -78,7 +79,7 @@ pub fn place(stim: u8, entries: [Setting; 8]) -> [Setting; 8]
         let listed = timing::listed(stim, i);
         let x = entry_for(listed, entries, next);
         settings[i] = x;
-        next = after(next, listed);
+        next = entry_after(next, listed);
         i += 1;
     }
     settings
@@ -121,7 +122,11 @@ fn single_settings(v: Single) -> [Setting; 8]
 fn hold_of(m: Core, channel: u8) -> u8
     ensures { λ r. ⌜ r ≡ holdOf m channel ⌝ }
 {
-    if channel < 4 { m.holda } else { m.holdb }
+    if channel < model::MODULE {
+        m.holda
+    } else {
+        m.holdb
+    }
 }
 
 // A Single: 7; 8; 9.

@@ -18,5 +18,6 @@ pub mod Zeros
 pub mod Apart
 pub mod Places
 pub mod Few
+pub mod Quiet
 pub mod Turn
 pub mod Theorems

@@ -1,19 +1,19 @@
 -- Document 01, "Bytes": what a byte does.
-use Prim.Native.Nat.{ℕ, _+_, _*_, _/_}
-use mathlib.Core.Bool.{Bool, cond}
+use Prim.Native.Nat.{ℕ, _/_}
+use mathlib.Core.Bool.{cond}
 use mathlib.Core.List.{List, [], _∷_, _++_}
 use lib.Dec.{eqb}
 use lib.ListN.{length}
 use Rattle.bits.specs.High.{high}
 use Rattle.commands.specs.Commands.{Command, ident}
 use Rattle.commands.specs.Reply.{reply}
-use Rattle.frames.specs.Layout.{identIn, byIdent, sizeFor, commandIn, checkIn}
+use Rattle.frames.specs.Layout.{identIn, sizeFor, commandIn, checkIn}
 use Rattle.trace.specs.declared.Record.{Record}
 use Rattle.trace.specs.declared.Record.the-variants.{Answer}
 use Rattle.model.specs.declared.Profile.{Profile}
 use Rattle.model.specs.declared.Core.{Core}
 use Rattle.model.specs.Channels.{channels}
-use Rattle.model.specs.State.{Partial, noFrame, State, byState, isRunning, isTripped}
+use Rattle.model.specs.State.{Partial, noFrame, State, isRunning, isTripped}
 use Rattle.model.specs.Judgement.{judge}
 use Rattle.model.specs.Effects.{Done, carry}
 
@@ -28,13 +28,14 @@ pub data Arrival : Type 0 where
 unfoldable pub lengthened : List ℕ → ℕ → Arrival
 lengthened bytes size = cond (eqb (length bytes) size) (whole bytes) (growing (record { bytes = bytes; size = size }))
 
--- A high byte always opens a frame; an unfinished one is dropped silently. Update's length is fixed when its first byte arrives. If
--- no list runs then, that byte alone is answered.
+-- Update's length is fixed when its first byte arrives. If no list runs then, that byte alone is answered.
+abbrev pub openedUpdate : Core → ℕ → Arrival
+openedUpdate m n =
+    cond (isRunning m) (growing (record { bytes = n ∷ []; size = sizeFor 1 (channels (m .run .list .stim)) })) alone
+
+-- A high byte always opens a frame; an unfinished one is dropped silently.
 unfoldable pub opened : Core → ℕ → Arrival
-opened m n =
-    cond (eqb (identIn (n ∷ [])) 1)
-    (cond (isRunning m) (growing (record { bytes = n ∷ []; size = sizeFor 1 (channels (m .run .list .stim)) })) alone)
-    (lengthened (n ∷ []) (sizeFor (identIn (n ∷ [])) 1))
+opened m n = cond (eqb (identIn (n ∷ [])) 1) (openedUpdate m n) (lengthened (n ∷ []) (sizeFor (identIn (n ∷ [])) 1))
 
 -- a low byte goes on with the open frame, if there is one
 unfoldable pub followed : Partial → ℕ → Arrival

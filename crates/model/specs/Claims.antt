@@ -17,7 +17,7 @@ use Rattle.model.specs.Slots.{inTurn, firstDue}
 use Rattle.model.specs.State.{State, isRunning, still, fresh}
 use Rattle.model.specs.Effects.{pulse}
 use Rattle.model.specs.Ticks.{releases}
-use Rattle.model.specs.Machine.{Call, step, after}
+use Rattle.model.specs.Machine.{Call, Call.tick, step, after}
 use Rattle.model.specs.Good.{goodRun, goodState}
 
 -- a call leaves a good state good, and so a box grown from a fresh one by any calls is good
@@ -37,6 +37,12 @@ StepKeepsZeros = (p : Profile) (s : State) (c : Call) → Zeros s → Zeros (ste
 abbrev pub AlwaysZeros : Type 0
 AlwaysZeros = (p : Profile) (cs : List Call) → Zeros (after p fresh cs)
 
+-- a box that is not running releases nothing in a tick, and is not running after it
+abbrev pub QuietAtRest : Type 0
+QuietAtRest =
+    (p : Profile) (s : State) → isRunning (s .core) ≡ false
+    → (step p s tick .records ≡ []) × (isRunning (step p s tick .state .core) ≡ false)
+
 -- N_Factor counts skips: a low frequency channel lets so many cycles pass, pulses in the next, and begins again
 pub record Skips (v : Init) (i : ℕ) : Type 0 where
   pub skipped : (cycle : ℕ) → cycle < v .factor → inTurn v cycle i ≡ false
@@ -47,16 +53,16 @@ abbrev pub CountsSkips : Type 0
 CountsSkips = (v : Init) (i : ℕ) → inSet (v .lf) i ≡ true → Skips v i
 
 -- the pulse of a channel; none where the channel's number is 8
-abbrev pub pulseOf : ℕ → Run → ℕ → List Record
-pulseOf clock r i =
+abbrev pub pulseAt : ℕ → Run → ℕ → List Record
+pulseAt clock r i =
     let x : Setting = getD (r .settings) i noSetting in cond (ltb i 8) (pulse clock i (x .width) (x .current) ∷ []) []
 
--- the pulses in a tick's two places are exactly the pulses due, A before B, none lost
+-- the pulses due in a good run are those of the first due channel of A and of B, in this order, and no more
 abbrev pub TwoPlaces : Type 0
 TwoPlaces =
     (p : Profile) (now clock : ℕ) (r : Run) → goodRun p now r ≡ true
-    → releases clock r ≡ pulseOf clock r (firstDue r 0 4) ++ pulseOf clock r (firstDue r 4 4)
+    → releases clock r ≡ pulseAt clock r (firstDue r 0 4) ++ pulseAt clock r (firstDue r 4 4)
 
 -- a call releases at most two records
 abbrev pub AtMostTwo : Type 0
-AtMostTwo = (p : Profile) (s : State) (c : Call) → goodProfile p ≡ true → goodState p s ≡ true → length (step p s c .records) ≤ 2
+AtMostTwo = (p : Profile) (s : State) (c : Call) → goodState p s ≡ true → length (step p s c .records) ≤ 2

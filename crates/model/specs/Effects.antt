@@ -1,6 +1,6 @@
 -- Document 01, "The machine": what a judged command leaves, and the records that it releases behind its 01.
 use Prim.Native.Nat.{ℕ, _+_}
-use mathlib.Core.Bool.{Bool, cond}
+use mathlib.Core.Bool.{cond}
 use mathlib.Core.List.{List, [], _∷_}
 use lib.Dec.{ltb, eqb}
 use Rattle.commands.specs.declared.Init.{Init}
@@ -19,7 +19,7 @@ pub record Done : Type 0 where
   pub core : Core
   pub records : List Record
 
--- the pulse of channel i, which the ring calls i + 1; zero width or current releases nothing
+-- the pulse of channel i, which the ring calls i + 1
 abbrev pub pulse : ℕ → ℕ → ℕ → ℕ → Record
 pulse clock i width current = Pulse clock (i + 1) width current
 
@@ -47,6 +47,7 @@ abbrev pub waited : Run → List Setting → Run
 waited r settings =
     record { list = r .list; settings = r .settings; waits = 1; waiting = settings; position = r .position; cycle = r .cycle; watch = 0 }
 
+-- zero width or current releases nothing
 unfoldable pub accept : ℕ → Core → Command → Done
 accept clock m (init v) = record { core = record { holda = 15; holdb = 15; state = 1; run = started v }; records = [] }
 accept clock m (update count entries) = record { core = withRun m (waited (m .run) (asked m (update count entries))); records = [] }
@@ -57,8 +58,10 @@ accept clock m (single v) =
       records = cond (felt (v .width) (v .current)) (pulse clock (v .channel) (v .width) (v .current) ∷ []) [];
     }
 
--- 0: carried out; 9: tripped; 3: dropped; else dropped, and the watchdog fed
+-- not carried out: 9 trips the box; else the frame is dropped, and any answer but 3 feeds the watchdog
+abbrev pub dropped : ℕ → Core → ℕ → Done
+dropped clock m answer =
+    cond (eqb answer 9) (tripped clock 1 m) (record { core = cond (eqb answer 3) m (withRun m (fed (m .run))); records = [] })
+
 unfoldable pub carry : ℕ → Core → Command → ℕ → Done
-carry clock m c answer =
-    cond (eqb answer 0) (accept clock m c)
-    (cond (eqb answer 9) (tripped clock 1 m) (record { core = cond (eqb answer 3) m (withRun m (fed (m .run))); records = [] }))
+carry clock m c answer = cond (eqb answer 0) (accept clock m c) (dropped clock m answer)

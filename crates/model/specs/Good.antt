@@ -1,5 +1,5 @@
 -- Document 01, "A box record is good if ..", but for its profile and its ring.
-use Prim.Native.Nat.{ℕ, suc, _+_, _*_, _%_}
+use Prim.Native.Nat.{ℕ, suc, _%_}
 use mathlib.Core.Bool.{Bool, true, false, cond, not, _&&_, _||_}
 use mathlib.Core.List.{List, [], _∷_}
 use lib.Dec.{leb, ltb, eqb}
@@ -9,7 +9,7 @@ use Rattle.commands.specs.declared.Init.{Init}
 use Rattle.commands.specs.declared.Setting.{Setting}
 use Rattle.commands.specs.Ranges.{within}
 use Rattle.commands.specs.Commands.{noSetting, settingSum, goodInit, goodSetting}
-use Rattle.frames.specs.Layout.{identIn, byIdent, sizeFor}
+use Rattle.frames.specs.Layout.{identIn, sizeFor}
 use Rattle.model.specs.declared.Profile.{Profile}
 use Rattle.model.specs.declared.Run.{Run}
 use Rattle.model.specs.declared.Core.{Core}
@@ -17,7 +17,7 @@ use Rattle.model.specs.Below.{allBelow}
 use Rattle.model.specs.Channels.{inSet, channels}
 use Rattle.model.specs.Timing.{t1, initTiming, updateTiming}
 use Rattle.model.specs.Profiles.{overAt}
-use Rattle.model.specs.State.{Partial, State, byState, isRunning}
+use Rattle.model.specs.State.{State, byState, isRunning}
 use Rattle.model.specs.Ticks.{lastClock}
 
 -- ---- a running list

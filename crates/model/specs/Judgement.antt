@@ -1,6 +1,6 @@
 -- Document 01, "Numbers the box answers" and "The machine": how a finished frame is judged.
 use Prim.Native.Nat.{ℕ}
-use mathlib.Core.Bool.{Bool, true, false, cond, not, _&&_, _||_}
+use mathlib.Core.Bool.{Bool, false, cond, not, _&&_, _||_}
 use mathlib.Core.List.{List, [], _∷_, _++_}
 use lib.Dec.{ltb, eqb}
 use lib.ListN.{set}
@@ -52,17 +52,22 @@ overLimit p m (update count entries) = overLimits p (asked m (update count entri
 overLimit p m stop = false
 overLimit p m (single v) = overLimits p (asked m (single v))
 
--- the tests that do not read the profile; the first number is the frame's own Check
+-- what may refuse a command of good values, whatever the profile says
+abbrev pub lateRefusals : Core → Command → List Test
+lateRefusals m c =
+    6 when (isUpdate c && not (isRunning m))
+    ∷ 7 when (isSingle c && isRunning m)
+    ∷ 5 when breaksTiming m c
+    ∷ 8 when inHold m c
+    ∷ []
+
+-- all tests that do not read the profile; the first number is the frame's own Check
 unfoldable pub refusals : Core → ℕ → Command → List Test
 refusals m k c =
     3 when not (eqb k (check c))
     ∷ 10 when ((isUpdate c || isSingle c) && isTripped m)
     ∷ 4 when not (good c)
-    ∷ 6 when (isUpdate c && not (isRunning m))
-    ∷ 7 when (isSingle c && isRunning m)
-    ∷ 5 when breaksTiming m c
-    ∷ 8 when inHold m c
-    ∷ []
+    ∷ lateRefusals m c
 
 -- a finished frame is tested: 3; 10; 4; 6 or 7; 5; 8; 9
 unfoldable pub judge : Profile → Core → ℕ → Command → ℕ

@@ -1,8 +1,7 @@
 -- Document 01, "The machine": states, and a fresh box.
 use Prim.Native.Nat.{ℕ, zero, suc}
-use mathlib.Core.Bool.{Bool, true, false, cond}
+use mathlib.Core.Bool.{Bool, true, false}
 use mathlib.Core.List.{List, []}
-use lib.Dec.{eqb}
 use Rattle.frames.specs.Reader.{noInit}
 use Rattle.model.specs.declared.Run.{Run}
 use Rattle.model.specs.declared.Core.{Core}
@@ -21,7 +20,7 @@ pub record State : Type 0 where
   pub partial : Partial
   pub core : Core
 
--- by state: 0 idle, 1 running, 2 tripped
+-- by state: 0 idle, 1 running, 2 tripped; a good record has no number above, which counts as tripped
 abbrev pub byState {ℓ} : {A : Type ℓ} → ℕ → A → A → A → A
 byState zero idle running tripped = idle
 byState (suc zero) idle running tripped = running

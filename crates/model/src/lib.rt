@@ -32,6 +32,9 @@ pub const RUNNING: u8 = 1;
 
 pub const TRIPPED: u8 = 2;
 
+// The channels of a module: A has 1 to 4, B has 5 to 8.
+pub const MODULE: u8 = 4;
+
 // The hold that a command puts on a module.
 pub const HOLD: u8 = 15;
 

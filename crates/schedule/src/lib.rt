@@ -21,7 +21,7 @@ const SLOT: u32 = 15;
 const OFFSET: u32 = 6;
 
 // What stands for no channel.
-const NONE: usize = 8;
+pub const NONE: usize = 8;
 
 // Whether a pulse of this width and current is released.
 pub fn is_felt(width: u16, current: u8) -> bool

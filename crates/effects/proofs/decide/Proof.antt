@@ -3,8 +3,8 @@ use Rattle.effects.proofs.Bytes.{channel-fits}
 use Rattle.effects.proofs.decide.Statement.{statement}
 use Rattle.effects.proofs.decide.Tie as tie
 
-first-of-requires : tie.Need-first-of-requires
-first-of-requires c κs = search needs
+first-byte-requires : tie.Need-first-byte-requires
+first-byte-requires c κs = search needs
 
 ident-of-requires : tie.Need-ident-of-requires
 ident-of-requires c κs = search needs
@@ -25,7 +25,7 @@ pub decide-spec : {M : Type 1} → statement M
 decide-spec =
     tie.close
     (tie.spec
-    first-of-requires
+    first-byte-requires
     ident-of-requires
     told-count-requires
     read-frame-requires

@@ -36,8 +36,8 @@ mul-settings c = search needs
 array-set-from-settings : tie.Need-array-set-from-settings Inv-loop μ-loop
 array-set-from-settings c = search needs
 
-after-requires : tie.Need-after-requires Inv-loop μ-loop
-after-requires c κs = search needs
+entry-after-requires : tie.Need-entry-after-requires Inv-loop μ-loop
+entry-after-requires c κs = search needs
 
 add-i : tie.Need-add-i Inv-loop μ-loop
 add-i c = search needs
@@ -54,7 +54,7 @@ loop-again c =
     let placed = place-turn (a .stim) (a .entries) (l .settings) (l .i) (c .before .before .before .loop-test .taken) (l .inv .4) in (
       omega arith,
       rw length-set (l .inv .1),
-      c .after .ensures .0 ∙ rw (l .inv .2) (sym counted),
+      c .entry-after .ensures .0 ∙ rw (l .inv .2) (sym counted),
       omega arith,
       rw (c .before .entry-for .ensures, here, l .inv .2) placed,
     )
@@ -78,7 +78,7 @@ place-spec =
     entry-for-requires
     mul-settings
     array-set-from-settings
-    after-requires
+    entry-after-requires
     add-i
     loop-less
     loop-again

@@ -1,7 +1,7 @@
 use borrow.Author.Needs.{needs}
 use Rattle.effects.proofs.Bytes.{empty-first}
-use Rattle.effects.proofs.first_of.Statement.{statement}
-use Rattle.effects.proofs.first_of.Tie as tie
+use Rattle.effects.proofs.first_byte.Statement.{statement}
+use Rattle.effects.proofs.first_byte.Tie as tie
 
 returns : tie.Need-returns
 returns c = empty-first (c .before .args .s .now) (c .if1 .taken)
@@ -12,5 +12,5 @@ shared-slice-read-result c = search needs
 returns-2 : tie.Need-returns-2
 returns-2 c = search needs
 
-pub first-of-spec : {M : Type 1} → statement M
-first-of-spec = tie.close (tie.spec returns shared-slice-read-result returns-2)
+pub first-byte-spec : {M : Type 1} → statement M
+first-byte-spec = tie.close (tie.spec returns shared-slice-read-result returns-2)
