@@ -18,7 +18,7 @@ use Rattle.model.specs.Timing.{t1, initTiming, updateTiming}
 use Rattle.model.specs.Profiles.{overLimits}
 use Rattle.model.specs.State.{isRunning, still}
 use Rattle.model.specs.Judgement.{asked, breaksTiming, holdOf, inHold, overLimit}
-use Rattle.model.specs.Effects.{accept, carry}
+use Rattle.model.specs.Effects.{tripped, withRun, fed, accept, carry}
 use Rattle.model.specs.Arrival.{decided}
 use Rattle.effects.specs.Deciding.{dropFrame, lateTests, late}
 
@@ -64,3 +64,19 @@ pub stopped : (p : Profile) (clock : ℕ) (m : Core)
     ≡ late p clock m stop
 unfolding accept
 stopped p clock m = carried-out p clock m stop (stop-tests p m)
+
+-- ---- what a command that is not carried out comes to
+
+module _ (clock : ℕ) (m : Core) (k answer : ℕ) where
+  -- 9 trips the box
+  pub over-limit : answer ≡ 9 → decided clock k 9 (tripped clock 1 m) ≡ dropFrame clock m k answer
+  over-limit e = rw e
+
+  -- 3 leaves it
+  pub wrong-check : answer ≡ 3 → decided clock k answer (record { core = m; records = [] }) ≡ dropFrame clock m k answer
+  wrong-check e = rw e
+
+  -- any other answer feeds the watchdog
+  pub feeds : (answer ≡ 9 → ⊥) → (answer ≡ 3 → ⊥)
+      → decided clock k answer (record { core = withRun m (fed (m .run)); records = [] }) ≡ dropFrame clock m k answer
+  feeds n c = rw (ne-eqb answer 9 n, ne-eqb answer 3 c)
