@@ -15,6 +15,7 @@ use Rattle.record.specs.Box.{stateOf, goodBox}
 use Rattle.machine.specs.declared.Released.{Released}
 use Rattle.machine.specs.declared.Said.{Said}
 use Rattle.machine.specs.declared.Records.{Records}
+use Rattle.machine.specs.Said.{pulseRecord}
 use Rattle.machine.specs.Step.{refusal, stepOf}
 
 -- the records that come back, as a row
@@ -30,7 +31,7 @@ pulsesIn (Trip clock cause ∷ xs) = pulsesIn xs
 
 -- the pulses in the two places, A before B
 abbrev pub inPlace : Released → List Record
-inPlace x = cond (eqb (x .channel) 0) [] (Pulse (x .clock) (x .channel) (x .width) (x .current) ∷ [])
+inPlace x = cond (eqb (x .channel) 0) [] (pulseRecord x ∷ [])
 
 abbrev pub places : Said → List Record
 places s = inPlace (s .a) ++ inPlace (s .b)

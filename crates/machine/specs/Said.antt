@@ -17,6 +17,10 @@ nothing = record { clock = 0; channel = 0; width = 0; current = 0 }
 abbrev pub released : ℕ → ℕ → ℕ → ℕ → Released
 released clock channel width current = record { clock = clock; channel = channel; width = width; current = current }
 
+-- its record
+abbrev pub pulseRecord : Released → Record
+pulseRecord x = Pulse (x .clock) (x .channel) (x .width) (x .current)
+
 -- the first pulse, among a call's records, of the channels from low to high
 unfoldable pub pulseOf : ℕ → ℕ → List Record → Released
 pulseOf low high [] = nothing

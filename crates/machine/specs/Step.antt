@@ -1,5 +1,5 @@
 -- What a call on any box record gives, where the ring's own tests gave `ring`, 0 if it is ready (document 01, "Numbers the box
--- answers"): 12, then the ring's 13 or 14, else the machine's step.
+-- answers"): 12, then the ring's 13 or 14, else the machine's step, which answers 15 itself.
 use Prim.Native.Nat.{ℕ}
 use mathlib.Core.Bool.{cond}
 use mathlib.Core.List.{[]}

@@ -6,8 +6,6 @@ use lib.Dec.{ltb, eqb}
 use lib.ListN.{getD}
 use Rattle.commands.specs.declared.Setting.{Setting}
 use Rattle.commands.specs.Commands.{noSetting}
-use Rattle.trace.specs.declared.Record.{Record}
-use Rattle.trace.specs.declared.Record.the-variants.{Pulse}
 use Rattle.model.specs.declared.Run.{Run}
 use Rattle.model.specs.declared.Core.{Core}
 use Rattle.model.specs.Effects.{Done}
@@ -15,7 +13,7 @@ use Rattle.record.specs.declared.Box.{Box}
 use Rattle.machine.specs.declared.Released.{Released}
 use Rattle.machine.specs.declared.Records.{Records}
 use Rattle.machine.specs.declared.Stepped.{Stepped}
-use Rattle.machine.specs.Said.{nothing, released, pulseOf, recordsOf}
+use Rattle.machine.specs.Said.{nothing, released, pulseRecord, pulseOf, recordsOf}
 
 -- the partial frame stays
 abbrev pub withCore : Box → ℕ → Core → Box
@@ -33,9 +31,6 @@ ticked b clock d =
 unfoldable pub releasedAt : ℕ → Run → ℕ → Released
 releasedAt clock r i =
     let x : Setting = getD (r .settings) i noSetting in cond (ltb i 8) (released clock (i + 1) (x .width) (x .current)) nothing
-
-abbrev pub pulseRecord : Released → Record
-pulseRecord x = Pulse (x .clock) (x .channel) (x .width) (x .current)
 
 -- the records of two pulses, of which each may be none
 unfoldable pub pulseRecords : Released → Released → Records
