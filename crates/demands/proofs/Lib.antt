@@ -5,4 +5,16 @@ pub mod Rows
 pub mod ReadsBack
 pub mod WritesBack
 pub mod RestUnused
-pub mod Cases
+pub mod Computed
+pub mod Answers
+pub mod Filed
+pub mod Demand1
+pub mod Histories
+pub mod Demand2
+pub mod OneBuffer
+pub mod Limits
+pub mod Parted
+pub mod Stricter
+pub mod Demand3
+pub mod Rejoining
+pub mod Idle

@@ -1,5 +1,4 @@
--- Document 01, "Sixteen to prove": the cases as one list under a single claim. Here stand 1 to 12, 14 and 15. 13 and 16 speak of the
--- ring and of the making of a box; the ring's part of 13 stands in crate `trace`.
+-- Document 01, "Sixteen to prove": the cases as one list under a single claim.
 use Prim.Native.Nat.{ℕ, _-_}
 use mathlib.Core.Bool.{Bool, true, false, cond, _&&_}
 use mathlib.Core.Path.{_≡_}
@@ -15,7 +14,9 @@ use Rattle.frames.specs.Bytes.{frame}
 use Rattle.frames.specs.Reader.{found, refused, readFrame}
 use Rattle.writers.specs.Writer.{wrote, written}
 use Rattle.trace.specs.declared.Record.the-variants.{Answer, Pulse, Trip}
-use Rattle.demands.specs.FreshBox.{sent, ticks, box, answers, trace, recordNumbers, decides}
+use Rattle.trace.specs.Case13.{wanted}
+use Rattle.guard.specs.Making.{makeOf}
+use Rattle.demands.specs.FreshBox.{sent, ticks, loosest, box, answers, trace, recordNumbers, decides, readsOut}
 
 -- a case: its number in document 01, and what two sides give, written as numbers
 pub record Case : Type 0 where
@@ -138,10 +139,14 @@ cases =
     ∷ Pulse 100 1 200 40 ∷ Pulse 115 3 300 30 ∷ Pulse 145 3 300 30
     ∷ Pulse 200 1 200 40 ∷ Pulse 215 3 300 30 ∷ Pulse 245 3 300 30
     ∷ Trip 255 2 ∷ []))
+    -- 13. Same, capacity 32, after clock 145 the readout is 27 bytes, whole
+    ∷ case 13 (readsOut 32 (sent init5 ++ ticks 5 ++ sent update6 ++ ticks 140)) (0 ∷ 27 ∷ wanted ++ 0xBB ∷ 0xBB ∷ 0xBB ∷ [])
     -- 14. Update in idle: 6 on the first byte, then 2 on each low byte
     ∷ case 14 (answers (box (sent update6))) (6 ∷ 2 ∷ 2 ∷ 2 ∷ 2 ∷ 2 ∷ 2 ∷ [])
     -- 15. Single channel 1 twice in one clock: 0, then 8
     ∷ case 15 (decides (singleOf 0 200 20 ∷ singleOf 0 200 20 ∷ [])) (0 ∷ 8 ∷ [])
+    -- 16. Capacity 15 refused, 16 taken
+    ∷ case 16 (makeOf loosest 15 .answer ∷ makeOf loosest 16 .answer ∷ []) (13 ∷ 0 ∷ [])
     ∷ []
 
 -- ---- the claim

@@ -4,11 +4,16 @@ use mathlib.Core.List.{List, [], _∷_, _++_}
 use lib.ListN.{replicate}
 use Rattle.commands.specs.Commands.{Command}
 use Rattle.frames.specs.Bytes.{frame}
+use Rattle.trace.specs.declared.Part.{Part}
+use Rattle.trace.specs.declared.Readout.{Readout}
 use Rattle.trace.specs.declared.Record.{Record}
 use Rattle.trace.specs.declared.Record.the-variants.{Answer, Pulse, Trip}
 use Rattle.model.specs.declared.Profile.{Profile}
 use Rattle.model.specs.State.{fresh}
 use Rattle.model.specs.Machine.{Call, Call.byte, Call.tick, Outcome, run}
+use Rattle.guard.specs.Making.{makeOf}
+use Rattle.guard.specs.Readout.{readoutOf, readoutBytes}
+use Rattle.demands.specs.OneBuffer.{Bench, given}
 
 -- ---- calls: bytes, the frames of commands, and ticks
 
@@ -58,3 +63,12 @@ decisions (Trip clock cause ∷ rs) = decisions rs
 
 abbrev pub decides : List Command → List ℕ
 decides cs = decisions (trace (box (commanded cs)))
+
+-- ---- its ring, in a buffer of 41 bytes the part from place 5 on, read out behind the calls to an output of 30
+
+abbrev pub readsOut : ℕ → List Call → List ℕ
+readsOut capacity cs =
+    let at : Part = record { offset = 5; size = capacity } in
+    let k : Bench = given at (record { box = makeOf loosest capacity .made; buf = replicate 41 0xAA }) cs in
+    let r : Readout = readoutOf (k .box) (k .buf) at 30 in
+    r .answer ∷ r .used ∷ readoutBytes (k .box) (k .buf) at (replicate 30 0xBB)

@@ -1,4 +1,11 @@
 pub mod DontCare
 pub mod RoundTrips
+pub mod History
+pub mod OneBuffer
 pub mod FreshBox
 pub mod Cases
+pub mod Demand1
+pub mod Demand2
+pub mod Demand3
+pub mod Rejoining
+pub mod Idle

@@ -1,0 +1,62 @@
+-- Which answers the machine gives: 0 to 10, or, to a tick at the clock's end, 15, which leaves all. Assumes nothing.
+use Prim.Native.Nat.{ℕ, _≤_}
+use mathlib.Core.Bool.{Bool, true, false, _&&_}
+use mathlib.Core.Path.{_≡_, refl}
+use mathlib.Core.List.{List, [], _∷_, _++_}
+use native.Mathlib.Omega.{arith}
+use lib.Dec.{leb, lit≤}
+use borrow.Author.Tests.{leb-true, lt-leb}
+use Rattle.commands.specs.Answers.{Test, _when_, firstOf}
+use Rattle.commands.proofs.Tests.{both}
+use Rattle.commands.specs.Ranges.{within}
+use Rattle.commands.specs.Commands.{Command}
+use Rattle.model.specs.declared.Profile.{Profile}
+use Rattle.model.specs.declared.Core.{Core}
+use Rattle.model.specs.State.{State, isTripped}
+use Rattle.model.specs.Judgement.{overLimit, refusals, judge}
+use Rattle.model.specs.Arrival.{Arrival, Arrival.stray, Arrival.alone, Arrival.growing, Arrival.whole, Result, arrive, decided, judged, taken, byteStep}
+use Rattle.model.specs.Machine.{Call, Call.byte, Call.tick, step}
+use Rattle.model.proofs.Tests.{either-way, not-both}
+use Rattle.model.proofs.Cases.{tick-cases}
+
+-- what a call in state s gives back
+pub data Way (s : State) (r : Result) : Type 0 where
+  answers : r .answer ≤ 10 → Way s r
+  ends : r ≡ record { state = s; answer = 15; reply = 0; records = [] } → Way s r
+
+-- each answer of a row of tests is at most n, and so is the first's
+abbrev allMost : ℕ → List Test → Bool
+allMost n [] = true
+allMost n (t ∷ ts) = leb (t .answer) n && allMost n ts
+
+first-most : (n : ℕ) (ts : List Test) → allMost n ts ≡ true → firstOf ts ≤ n
+first-most n [] h = omega arith
+first-most n (t ∷ ts) h =
+    let b = both (leb (t .answer) n) (allMost n ts) h in
+    either-way (t .holds) (λ e. rw e (leb-true (t .answer) n (b .0))) (λ e. rw e (first-most n ts (b .1)))
+
+judge-most : (p : Profile) (m : Core) (k : ℕ) (c : Command) → judge p m k c ≤ 10
+unfolding judge refusals
+judge-most p m k c = first-most 10 (refusals m k c ++ 9 when overLimit p m c ∷ []) refl
+
+taken-most : (p : Profile) (s : State) (x : Arrival) → taken p s x .answer ≤ 10
+unfolding taken judged decided
+taken-most p s stray = lit≤ tt
+taken-most p s alone = either-way (isTripped (s .core)) (λ e. rw e (lit≤ tt)) (λ e. rw e (lit≤ tt))
+taken-most p s (growing q) = lit≤ tt
+taken-most p s (whole bytes) = judge-most p (s .core) _ _
+
+pub way : (p : Profile) (s : State) (c : Call) → Way s (step p s c)
+unfolding step byteStep
+way p s (byte n) = answers (taken-most p s (arrive (s .core) (s .partial) n))
+way p s tick = tick-cases (Way s) p s (ends refl) (λ _. answers (lit≤ tt))
+
+-- no step is answered 12, 13 or 14
+pub never : {s : State} {r : Result} → Way s r → within 12 (r .answer) 14 ≡ false
+never {r = r} (answers h) = rw (lt-leb 12 (r .answer) (omega arith))
+never (ends e) = rw e refl
+
+-- and what is answered 11 to 17 leaves all
+pub stays : {s : State} {r : Result} → Way s r → within 11 (r .answer) 17 ≡ true → r ≡ record { state = s; answer = 15; reply = 0; records = [] }
+stays {r = r} (answers h) e = not-both e (rw (lt-leb 11 (r .answer) (omega arith)))
+stays (ends e) w = e

@@ -1,0 +1,77 @@
+-- A history: a fresh box, and the turns that a user takes with it. It is proper if each call gets the box as its last call left it, and,
+-- in any buffer at any offset, the part of the box's capacity holding what that call left (document 01, "The ring").
+use Prim.Native.Nat.{ℕ}
+use mathlib.Core.Path.{_≡_}
+use mathlib.Core.List.{List, [], _∷_}
+use Rattle.trace.specs.declared.Part.{Part}
+use Rattle.trace.specs.declared.Record.{Record}
+use Rattle.trace.specs.Ring.{part}
+use Rattle.trace.specs.Proper.{Lent}
+use Rattle.model.specs.declared.Profile.{Profile}
+use Rattle.model.specs.Machine.{Call}
+use Rattle.record.specs.declared.Box.{Box}
+use Rattle.machine.specs.declared.Said.{Said}
+use Rattle.machine.specs.Claims.{places}
+use Rattle.guard.specs.Making.{makeOf}
+use Rattle.guard.specs.Calls.{Answered, callOf}
+
+-- a byte or a tick, or a readout to an output; behind it the buffer that is lent, and where the ring's part lies in it
+pub data Turn : Type 0 where
+  call : Call → List ℕ → Part → Turn
+  readout : List ℕ → List ℕ → Part → Turn
+
+-- what is kept from one turn to the next: the box, and the bytes of its ring's part
+pub record Kept : Type 0 where
+  pub box : Box
+  pub bytes : List ℕ
+
+-- as a turn leaves them; a readout leaves both
+unfoldable pub next : Kept → Turn → Kept
+next h (call c buf at) =
+    let r : Answered = callOf (h .box) buf at c in record { box = r .called .next; bytes = part (r .buf) at }
+next h (readout out buf at) = h
+
+unfoldable pub last : Kept → List Turn → Kept
+last h [] = h
+last h (t ∷ ts) = last (next h t) ts
+
+-- inside the buffer lies the part of the box's capacity, holding those bytes
+abbrev pub LentWith : Kept → Turn → Type 0
+LentWith h (call c buf at) = Lent buf at (record { ring = h .box .ring; bytes = h .bytes })
+LentWith h (readout out buf at) = Lent buf at (record { ring = h .box .ring; bytes = h .bytes })
+
+unfoldable pub Proper : Kept → List Turn → Type 0
+Proper h [] = Unit
+Proper h (t ∷ ts) = LentWith h t × Proper (next h t) ts
+
+-- a box just made, whatever its part holds, and proper turns
+pub record History (p : Profile) : Type 0 where
+  pub capacity : ℕ
+  pub bytes : List ℕ
+  pub turns : List Turn
+  pub taken : makeOf p capacity .answer ≡ 0
+  pub proper : Proper (record { box = makeOf p capacity .made; bytes = bytes }) turns
+
+abbrev pub start : {p : Profile} → History p → Kept
+start {p} h = record { box = makeOf p (h .capacity) .made; bytes = h .bytes }
+
+-- the bytes and ticks of the turns
+abbrev pub calls : List Turn → List Call
+calls [] = []
+calls (call c buf at ∷ ts) = c ∷ calls ts
+calls (readout out buf at ∷ ts) = calls ts
+
+-- what a call says: its answer, its reply, and its pulses, A before B
+pub record Spoken : Type 0 where
+  pub answer : ℕ
+  pub reply : ℕ
+  pub pulses : List Record
+
+abbrev pub spokenBy : Said → Spoken
+spokenBy s = record { answer = s .answer; reply = s .reply; pulses = places s }
+
+-- what the bytes and ticks of the turns say
+unfoldable pub spoken : Kept → List Turn → List Spoken
+spoken h [] = []
+spoken h (call c buf at ∷ ts) = spokenBy (callOf (h .box) buf at c .called .said) ∷ spoken (next h (call c buf at)) ts
+spoken h (readout out buf at ∷ ts) = spoken h ts

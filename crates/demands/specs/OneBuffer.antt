@@ -1,0 +1,41 @@
+-- Calls with one buffer, one after the other: whatever the bytes and ticks, a proper history has them.
+use Prim.Native.Nat.{ℕ}
+use mathlib.Core.Bool.{true}
+use mathlib.Core.Path.{_≡_}
+use mathlib.Core.List.{List, [], _∷_}
+use lib.ListN.{length}
+use Rattle.trace.specs.declared.Part.{Part}
+use Rattle.trace.specs.Ring.{goodPart, part}
+use Rattle.model.specs.declared.Profile.{Profile}
+use Rattle.model.specs.Machine.{Call}
+use Rattle.record.specs.declared.Box.{Box}
+use Rattle.guard.specs.Making.{makeOf}
+use Rattle.guard.specs.Calls.{Answered, callOf}
+use Rattle.demands.specs.History.{Turn, Turn.call, Proper, calls}
+
+-- a box, and the buffer that is lent with it
+pub record Bench : Type 0 where
+  pub box : Box
+  pub buf : List ℕ
+
+unfoldable pub onward : Part → Bench → Call → Bench
+onward at k c = let r : Answered = callOf (k .box) (k .buf) at c in record { box = r .called .next; buf = r .buf }
+
+-- as calls leave them
+unfoldable pub given : Part → Bench → List Call → Bench
+given at k [] = k
+given at k (c ∷ cs) = given at (onward at k c) cs
+
+-- the calls as turns
+unfoldable pub turnsOf : Part → Bench → List Call → List Turn
+turnsOf at k [] = []
+turnsOf at k (c ∷ cs) = call c (k .buf) at ∷ turnsOf at (onward at k c) cs
+
+pub record HasHistory (p : Profile) (capacity : ℕ) (buf : List ℕ) (at : Part) (cs : List Call) : Type 0 where
+  pub proper : Proper (record { box = makeOf p capacity .made; bytes = part buf at }) (turnsOf at (record { box = makeOf p capacity .made; buf = buf }) cs)
+  pub same : calls (turnsOf at (record { box = makeOf p capacity .made; buf = buf }) cs) ≡ cs
+
+abbrev pub AnyHistory : Type 0
+AnyHistory =
+    (p : Profile) (capacity : ℕ) (buf : List ℕ) (at : Part) (cs : List Call)
+    → makeOf p capacity .answer ≡ 0 → goodPart (length buf) at capacity ≡ true → HasHistory p capacity buf at cs

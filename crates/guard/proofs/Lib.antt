@@ -1,0 +1,4 @@
+pub mod Fresh
+pub mod Zero
+pub mod Filed
+pub mod Joined

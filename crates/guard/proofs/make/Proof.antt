@@ -1,0 +1,61 @@
+use mathlib.Core.Path.{sym, _∙_}
+use borrow.Author.Needs.{needs}
+use Rattle.guard.proofs.Fresh.{made-fresh, refused-11, refused-13}
+use Rattle.guard.proofs.make.Statement.{statement}
+use Rattle.guard.proofs.make.Tie as tie
+use Rattle.guard.proofs.make.Reads as reads
+use Rattle.guard.proofs.make.Lts as lts
+use Rattle.guard.proofs.making.fresh_box.Reads as fresh-box-reads
+use Rattle.guard.proofs.making.refuse.Reads as refuse-reads
+use Rattle.record.proofs.limits.good_profile.Reads as good-profile-reads
+use Rattle.trace.proofs.good_ring.Reads as good-ring-reads
+
+good-profile-requires : tie.Need-good-profile-requires
+good-profile-requires c κs = search needs
+
+good-ring-requires : tie.Need-good-ring-requires
+good-ring-requires c κs = search needs
+
+fresh-box-requires : tie.Need-fresh-box-requires
+fresh-box-requires c κs = search needs
+
+returns : tie.Need-returns
+returns c =
+    let q = c .before .before .before .before in
+    let a = q .before .args in
+    let e = made-fresh (a .profile) (a .capacity) (sym (q .good-profile .ensures) ∙ c .before .before .before .if1 .taken)
+    (sym (c .before .before .good-ring .ensures) ∙ c .before .if2 .taken) in
+    rw (c .fresh-box .ensures) e
+
+refuse-requires : tie.Need-refuse-requires
+refuse-requires c κs = search needs
+
+returns-2 : tie.Need-returns-2
+returns-2 c =
+    let q = c .before .before .before .before in
+    let a = q .before .args in
+    c .refuse .ensures
+    ∙ refused-13 (a .profile) (a .capacity) (sym (q .good-profile .ensures) ∙ c .before .before .before .if1 .taken)
+    (sym (c .before .before .good-ring .ensures) ∙ c .before .if2 .left)
+
+refuse-requires-2 : tie.Need-refuse-requires-2
+refuse-requires-2 c κs = search needs
+
+returns-3 : tie.Need-returns-3
+returns-3 c =
+    let q = c .before .before in
+    let a = q .before .args in
+    c .refuse2 .ensures ∙ refused-11 (a .profile) (a .capacity) (sym (q .good-profile .ensures) ∙ c .before .if1 .left)
+
+pub make-spec : {M : Type 1} → statement M
+make-spec =
+    tie.close
+    (tie.spec
+    good-profile-requires
+    good-ring-requires
+    fresh-box-requires
+    returns
+    refuse-requires
+    returns-2
+    refuse-requires-2
+    returns-3)
