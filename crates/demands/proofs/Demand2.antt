@@ -38,12 +38,13 @@ was-made p capacity e =
     record { profile = not-false (goodProfile p) (a .0); room = not-false (goodCapacity capacity) (b .0); box = rw e refl }
 
 -- an empty ring holds the tail of no records
-pub fresh-grown : (p : Profile) (capacity : ℕ) (m : WasMade p capacity) (bytes : List ℕ) → Grown p (m .profile) capacity (emptyRing capacity) fresh bytes []
+pub fresh-grown : (p : Profile) (capacity : ℕ) → WasMade p capacity → (bytes : List ℕ) → Grown p capacity (emptyRing capacity) fresh bytes []
 unfolding content joined tailWithin splitsAfter after
 fresh-grown p capacity m bytes =
     let c = both (leb 16 capacity) (leb capacity 4096) (m .room) in
     let least : 16 ≤ capacity = leb-true 16 capacity (c .0) in
     record {
+      profile = m .profile;
       ring = record { least = least; greatest = leb-true capacity 4096 (c .1); start-in = omega arith; used-in = omega arith };
       same = refl;
       state = always-good p [] (m .profile);
@@ -52,20 +53,19 @@ fresh-grown p capacity m bytes =
     }
 
 -- what holds over a whole history
-pub whole : (p : Profile) (h : History p) (m : WasMade p (h .capacity)) → Holds p (m .profile) (h .capacity) (start h) fresh [] (h .turns)
-whole p h m =
-    let f = fresh-grown p (h .capacity) m (h .bytes) in
-    rw (m .box) (from p (m .profile) (h .capacity) (emptyRing (h .capacity)) fresh (h .bytes) [] (h .turns) f (rw (m .box) at (h .proper)))
+whole : (p : Profile) (h : History p) → Holds p (h .capacity) (start h) fresh [] (h .turns)
+whole p h =
+    let m = was-made p (h .capacity) (h .taken) in
+    rw (m .box) (from (fresh-grown p (h .capacity) m (h .bytes)) (h .turns) (rw (m .box) at (h .proper)))
 
 pub demand2 : Demand2Holds
 unfolding boxOf
 demand2 p h =
-    let m = was-made p (h .capacity) (h .taken) in
-    let w = whole p h m in
+    let w = whole p h in
     record {
       said = w .said;
       none = w .none;
       state = ap (λ (k : Kept). stateOf (k .box)) (w .left) ∙ carries p (w .ring) (after p fresh (calls (h .turns)));
       ring = rw (w .left) (w .grown .tail);
-      reads = rw (w .left) (λ buf at out l. reads p (m .profile) (h .capacity) (w .ring) _ (w .bytes) _ (w .grown) buf at l out);
+      reads = rw (w .left) (λ buf at out l. reads (w .grown) buf at l out);
     }

@@ -40,116 +40,122 @@ use Rattle.demands.specs.Demand2.{documented, NoneRefused, ReadsOut}
 use Rattle.demands.proofs.Answers.{way, never}
 use Rattle.demands.proofs.Filed.{ready-placed, filed-ready, filed-capacity, filed-tail}
 
-module _ (p : Profile) (profile-good : goodProfile p ≡ true) (capacity : ℕ) where
-  -- a box that carries s, and its part's bytes
-  abbrev pub box : Ring → State → List ℕ → Kept
-  box g s bytes = record { box = boxOf p g s; bytes = bytes }
+-- a box that carries s, and its part's bytes
+abbrev pub box : Profile → Ring → State → List ℕ → Kept
+box p g s bytes = record { box = boxOf p g s; bytes = bytes }
 
-  -- the ring holds the tail of the records xs
-  pub record Grown (g : Ring) (s : State) (bytes : List ℕ) (xs : List Record) : Type 0 where
-    pub ring : GoodRing g
-    pub same : g .capacity ≡ capacity
-    pub state : goodState p s ≡ true
-    pub whole : splits (heldIn bytes g) ≡ true
-    pub tail : heldIn bytes g ≡ tailBytes capacity xs
+-- it is good, and its ring, of this capacity, holds the tail of the records xs
+pub record Grown (p : Profile) (capacity : ℕ) (g : Ring) (s : State) (bytes : List ℕ) (xs : List Record) : Type 0 where
+  pub profile : goodProfile p ≡ true
+  pub ring : GoodRing g
+  pub same : g .capacity ≡ capacity
+  pub state : goodState p s ≡ true
+  pub whole : splits (heldIn bytes g) ≡ true
+  pub tail : heldIn bytes g ≡ tailBytes capacity xs
 
-  module _ (g : Ring) (s : State) (bytes : List ℕ) (xs : List Record) (f : Grown g s bytes xs)
-      (buf : List ℕ) (at : Part) (l : Lent buf at (record { ring = g; bytes = bytes })) where
-    pub good : goodBox (boxOf p g s) ≡ true
-    good = carrier-good p g s profile-good (ring-good g (f .ring)) (f .state)
+-- ---- one turn
 
-    pub ready : readyAnswer buf at g ≡ 0
-    ready =
-        ready-whole buf at g (placed-in (length buf) at g (f .ring) (l .0))
-        (ap (λ (b : List ℕ). splits (heldIn b g)) (l .1) ∙ f .whole)
+module _ {p : Profile} {capacity : ℕ} {g : Ring} {s : State} {bytes : List ℕ} {xs : List Record} (f : Grown p capacity g s bytes xs)
+    (buf : List ℕ) (at : Part) (l : Lent buf at (record { ring = g; bytes = bytes })) where
+  good : goodBox (boxOf p g s) ≡ true
+  good = carrier-good p g s (f .profile) (ring-good g (f .ring)) (f .state)
 
-    -- a readout copies the tail, or finds no room for it
-    pub reads : (out : List ℕ) → ReadsOut (box g s bytes) (tailBytes capacity xs) buf at out
-    unfolding readoutOf readoutBytes boxOf
-    reads out =
-        let has : held buf at g ≡ tailBytes capacity xs = ap (λ (b : List ℕ). heldIn b g) (l .1) ∙ f .tail in
-        let used : g .used ≡ length (tailBytes capacity xs) = sym (held-length buf at g (ready-placed buf at g ready)) ∙ ap length has in
-        let n : ℕ = length (tailBytes capacity xs) in
-        either-way (ltb (length out) n)
-        (λ e.
-        let short : length out < g .used = omega (arith, used, ltb-true (length out) n e) in
-        let y = read-16 buf at g out ready short in
-        record { report = rw (good, e) (sym (y .0)); output = rw (good, e) (sym (y .1)) })
-        (λ e.
-        let fits : g .used ≤ length out = omega (arith, used, ltb-false (length out) n e) in
-        let y = read-held buf at g out ready fits in
-        record {
-          report = rw (good, e) (y .0 ∙ ap (λ (n : ℕ). record { answer = 0; used = n }) used);
-          output = rw (good, e) (y .1 ∙ ap₂ (λ (l : List ℕ) (n : ℕ). l ++ drop n out) has used);
-        })
+  pub ready : readyAnswer buf at g ≡ 0
+  ready =
+      ready-whole buf at g (placed-in (length buf) at g (f .ring) (l .0))
+      (ap (λ (b : List ℕ). splits (heldIn b g)) (l .1) ∙ f .whole)
 
-    pub read-taken : (out : List ℕ) → within 12 (readoutOf (boxOf p g s) buf at (length out) .answer) 14 ≡ false
-    read-taken out =
-        rw (reads out .report)
-        (either-way (ltb (length out) (length (tailBytes capacity xs))) (λ e. rw e refl) (λ e. rw e refl))
+  has-tail : held buf at g ≡ tailBytes capacity xs
+  has-tail = ap (λ (b : List ℕ). heldIn b g) (l .1) ∙ f .tail
 
-    module _ (c : Call) where
-      abbrev x : Result
-      x = step p s c
-
-      abbrev after-it : Filed
-      after-it = filed at g buf (x .records)
-
-      -- the call is taken
-      pub gives : callOf (boxOf p g s) buf at c ≡ given (boxOf p g s) buf at (step p s c)
-      unfolding callOf boxOf
-      gives = rw (good, ready) (ap (λ (y : State). given (boxOf p g s) buf at (step p y c)) (carries p g s))
-
-      -- what it says, in its two places, is what the machine says
-      pub says : spokenBy (saidOf (step p s c)) ≡ documented (outcome (step p s c))
-      unfolding saidOf
-      says =
-          ap (λ (l : List Record). record { answer = x .answer; reply = x .reply; pulses = l })
-          (placed (step-releases p s c (state-facts (f .state))))
-
-      -- and the box has grown by its records
-      pub grows : Grown (after-it .ring) (x .state) (part (after-it .buf) at) (xs ++ x .records)
-      grows =
-          let r = filed-ready at g buf (x .records) ready in
-          record {
-            ring = ready-placed (after-it .buf) at (after-it .ring) r .ring;
-            same = filed-capacity at g buf (x .records) ready ∙ f .same;
-            state = step-keeps-good p s c profile-good (f .state);
-            whole = ready-facts (after-it .buf) at (after-it .ring) r .1;
-            tail = filed-tail at g buf xs (x .records) capacity ready (f .same) (ap (λ (b : List ℕ). heldIn b g) (l .1) ∙ f .tail);
-          }
-
-      pub then : next (box g s bytes) (call c buf at) ≡ box (after-it .ring) (x .state) (part (after-it .buf) at)
-      unfolding next given boxOf
-      then = ap (λ (r : Answered). record { box = r .called .next; bytes = part (r .buf) at }) gives
-
-  -- what holds of a box that carries s and has released xs, over the turns that follow
-  pub record Holds (h : Kept) (s : State) (xs : List Record) (ts : List Turn) : Type 0 where
-    pub said : spoken h ts ≡ map documented (run p s (calls ts))
-    pub none : NoneRefused h ts
-    pub ring : Ring
-    pub bytes : List ℕ
-    pub grown : Grown ring (after p s (calls ts)) bytes (xs ++ trace (run p s (calls ts)))
-    pub left : last h ts ≡ box ring (after p s (calls ts)) bytes
-
-  pub from : (g : Ring) (s : State) (bytes : List ℕ) (xs : List Record) (ts : List Turn) → Grown g s bytes xs
-      → Proper (box g s bytes) ts → Holds (box g s bytes) s xs ts
-  unfolding spoken NoneRefused run after last next Proper boxOf given saidOf
-  from g s bytes xs [] f w =
-      record { said = refl; none = tt; ring = g; bytes = bytes; grown = rw append-nil f; left = refl }
-  from g s bytes xs (readout out buf at ∷ ts) f w =
-      let h = from g s bytes xs ts f (w .1) in
-      record { said = h .said; none = (read-taken g s bytes xs f buf at (w .0) out, h .none); ring = h .ring; bytes = h .bytes; grown = h .grown; left = h .left }
-  from g s bytes xs (call c buf at ∷ ts) f w =
-      let x : Result = step p s c in
-      let e = gives g s bytes xs f buf at (w .0) c in
-      let n = then g s bytes xs f buf at (w .0) c in
-      let h = from _ _ _ _ ts (grows g s bytes xs f buf at (w .0) c) (rw n at (w .1)) in
+  -- a readout copies the tail, or finds no room for it
+  pub reads : (out : List ℕ) → ReadsOut (box p g s bytes) (tailBytes capacity xs) buf at out
+  unfolding readoutOf readoutBytes boxOf
+  reads out =
+      let n : ℕ = length (tailBytes capacity xs) in
+      let used : g .used ≡ n = sym (held-length buf at g (ready-placed buf at g ready)) ∙ ap length has-tail in
+      either-way (ltb (length out) n)
+      (λ e.
+      let short : length out < g .used = omega (arith, used, ltb-true (length out) n e) in
+      let y = read-16 buf at g out ready short in
+      record { report = rw (good, e) (sym (y .0)); output = rw (good, e) (sym (y .1)) })
+      (λ e.
+      let fits : g .used ≤ length out = omega (arith, used, ltb-false (length out) n e) in
+      let y = read-held buf at g out ready fits in
       record {
-        said = rw e (ap₂ (λ (o : Spoken) (os : List Spoken). o ∷ os) (says g s bytes xs f buf at (w .0) c) (h .said));
-        none = (ap (λ (r : Answered). within 12 (r .called .said .answer) 14) e ∙ never (way p s c), rw e (h .none));
-        ring = h .ring;
-        bytes = h .bytes;
-        grown = rw (← append-assoc xs (x .records) (trace (run p (x .state) (calls ts)))) (h .grown);
-        left = rw e (h .left);
-      }
+        report = rw (good, e) (y .0 ∙ ap (λ (n : ℕ). record { answer = 0; used = n }) used);
+        output = rw (good, e) (y .1 ∙ ap₂ (λ (l : List ℕ) (n : ℕ). l ++ drop n out) has-tail used);
+      })
+
+  read-taken : (out : List ℕ) → within 12 (readoutOf (boxOf p g s) buf at (length out) .answer) 14 ≡ false
+  read-taken out =
+      rw (reads out .report)
+      (either-way (ltb (length out) (length (tailBytes capacity xs))) (λ e. rw e refl) (λ e. rw e refl))
+
+  module _ (c : Call) where
+    abbrev x : Result
+    x = step p s c
+
+    abbrev after-it : Filed
+    after-it = filed at g buf (x .records)
+
+    -- a byte or a tick is taken
+    pub gives : callOf (boxOf p g s) buf at c ≡ given (boxOf p g s) buf at (step p s c)
+    unfolding callOf boxOf
+    gives = rw (good, ready) (ap (λ (y : State). given (boxOf p g s) buf at (step p y c)) (carries p g s))
+
+    -- what it says, in its two places, is what the machine says
+    says : spokenBy (saidOf (step p s c)) ≡ documented (outcome (step p s c))
+    unfolding saidOf
+    says =
+        ap (λ (l : List Record). record { answer = x .answer; reply = x .reply; pulses = l })
+        (placed (step-releases p s c (state-facts (f .state))))
+
+    -- and the box has grown by its records
+    pub grows : Grown p capacity (after-it .ring) (x .state) (part (after-it .buf) at) (xs ++ x .records)
+    grows =
+        let r = filed-ready at g buf (x .records) ready in
+        record {
+          profile = f .profile;
+          ring = ready-placed (after-it .buf) at (after-it .ring) r .ring;
+          same = filed-capacity at g buf (x .records) ready ∙ f .same;
+          state = step-keeps-good p s c (f .profile) (f .state);
+          whole = ready-facts (after-it .buf) at (after-it .ring) r .1;
+          tail = filed-tail at g buf xs (x .records) capacity ready (f .same) has-tail;
+        }
+
+    pub then : next (box p g s bytes) (call c buf at) ≡ box p (after-it .ring) (x .state) (part (after-it .buf) at)
+    unfolding next given boxOf
+    then = ap (λ (r : Answered). record { box = r .called .next; bytes = part (r .buf) at }) gives
+
+-- ---- turn after turn
+
+-- what holds of a box that carries s and has released xs, over the turns that follow
+pub record Holds (p : Profile) (capacity : ℕ) (h : Kept) (s : State) (xs : List Record) (ts : List Turn) : Type 0 where
+  pub said : spoken h ts ≡ map documented (run p s (calls ts))
+  pub none : NoneRefused h ts
+  pub ring : Ring
+  pub bytes : List ℕ
+  pub grown : Grown p capacity ring (after p s (calls ts)) bytes (xs ++ trace (run p s (calls ts)))
+  pub left : last h ts ≡ box p ring (after p s (calls ts)) bytes
+
+pub from : {p : Profile} {capacity : ℕ} {g : Ring} {s : State} {bytes : List ℕ} {xs : List Record} → Grown p capacity g s bytes xs
+    → (ts : List Turn) → Proper (box p g s bytes) ts → Holds p capacity (box p g s bytes) s xs ts
+unfolding spoken NoneRefused run after last next Proper boxOf given saidOf
+from {g = g} {bytes = bytes} f [] w =
+    record { said = refl; none = tt; ring = g; bytes = bytes; grown = rw append-nil f; left = refl }
+from f (readout out buf at ∷ ts) w =
+    let h = from f ts (w .1) in
+    record { said = h .said; none = (read-taken f buf at (w .0) out, h .none); ring = h .ring; bytes = h .bytes; grown = h .grown; left = h .left }
+from {p} {s = s} {xs = xs} f (call c buf at ∷ ts) w =
+    let x : Result = step p s c in
+    let e = gives f buf at (w .0) c in
+    let h = from (grows f buf at (w .0) c) ts (rw (then f buf at (w .0) c) at (w .1)) in
+    record {
+      said = rw e (ap₂ (λ (o : Spoken) (os : List Spoken). o ∷ os) (says f buf at (w .0) c) (h .said));
+      none = (ap (λ (r : Answered). within 12 (r .called .said .answer) 14) e ∙ never (way p s c), rw e (h .none));
+      ring = h .ring;
+      bytes = h .bytes;
+      grown = rw (← append-assoc xs (x .records) (trace (run p (x .state) (calls ts)))) (h .grown);
+      left = rw e (h .left);
+    }

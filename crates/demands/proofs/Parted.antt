@@ -35,13 +35,13 @@ abbrev pub down : ℕ → ℕ → Run → Core
 down a b r = record { holda = a; holdb = b; state = 2; run = r }
 
 -- the second box has the first's partial frame, or none
-pub data Kept : Partial → Partial → Type 0 where
-  even : {f : Partial} → Kept f f
-  gone : {f : Partial} → Kept f noFrame
+pub data Framed : Partial → Partial → Type 0 where
+  even : {f : Partial} → Framed f f
+  gone : {f : Partial} → Framed f noFrame
 
 -- the second box is tripped; the clocks are equal
 pub data Apart : State → State → Type 0 where
-  apart : {clock : ℕ} {m : Core} {a b : ℕ} {r : Run} {f g : Partial} → Kept f g → Apart (at clock f m) (at clock g (down a b r))
+  apart : {clock : ℕ} {m : Core} {a b : ℕ} {r : Run} {f g : Partial} → Framed f g → Apart (at clock f m) (at clock g (down a b r))
 
 -- the two are equal, or the second is tripped
 pub data Related : State → State → Type 0 where
@@ -120,7 +120,7 @@ module _ (p q : Profile) (l : NowhereLooser q p) where
         (fell (apart even) refl) (fell (apart even) refl) (fell (apart even) refl)
 
     -- so does a byte of which the two make the same
-    taken-alike : {f g : Partial} → Kept f g → (x : Arrival)
+    taken-alike : {f g : Partial} → Framed f g → (x : Arrival)
         → Met (taken p (at clock f m) x) (taken q (at clock g (down a b r)) x)
     unfolding taken decided pulsesIn
     taken-alike h stray = fell (apart h) refl
@@ -129,14 +129,14 @@ module _ (p q : Profile) (l : NowhereLooser q p) where
     taken-alike h (whole bytes) = judged-apart (checkIn bytes) (commandOf bytes)
 
     -- so does a low byte
-    followed-apart : {f g : Partial} → Kept f g → (n : ℕ)
+    followed-apart : {f g : Partial} → Framed f g → (n : ℕ)
         → Met (taken p (at clock f m) (followed f n)) (taken q (at clock g (down a b r)) (followed g n))
     unfolding followed taken pulsesIn
     followed-apart {f} even n = taken-alike even (followed f n)
     followed-apart {f} gone n = fell (lost f (followed f n)) refl
 
     -- so does a high byte; an Update's first one the second answers alone
-    opened-apart : {f g : Partial} → Kept f g → (n : ℕ)
+    opened-apart : {f g : Partial} → Framed f g → (n : ℕ)
         → Met (taken p (at clock f m) (opened m n)) (taken q (at clock g (down a b r)) (opened (down a b r) n))
     unfolding opened taken decided pulsesIn
     opened-apart {f} h n =
@@ -145,7 +145,7 @@ module _ (p q : Profile) (l : NowhereLooser q p) where
         (λ e. rw e (rw e at (taken-alike h (lengthened (n ∷ []) (sizeFor (identIn (n ∷ [])) 1)))))
 
     -- so does a call
-    call-apart : {f g : Partial} → Kept f g → (c : Call) → Met (step p (at clock f m) c) (step q (at clock g (down a b r)) c)
+    call-apart : {f g : Partial} → Framed f g → (c : Call) → Met (step p (at clock f m) c) (step q (at clock g (down a b r)) c)
     unfolding step byteStep arrive tickStep timed pulsesIn
     call-apart h (byte n) = either-way (high n) (λ e. rw e (opened-apart h n)) (λ e. rw e (followed-apart h n))
     call-apart h tick =

@@ -2,7 +2,7 @@
 -- first, and until the second trips, or from where it leaves the tripped state, all that they give back is equal. Assumes nothing.
 use mathlib.Core.Bool.{Bool, true, false, not, _&&_}
 use mathlib.Core.Path.{_≡_, refl}
-use mathlib.Core.List.{List, [], _∷_, List·Memᴰ, List·Memᴰ·not-nil}
+use mathlib.Core.List.{List, [], _∷_, map, List·Memᴰ, List·Memᴰ·not-nil}
 use borrow.Author.Tests.{not-true}
 use Rattle.commands.proofs.Tests.{both}
 use Rattle.trace.specs.declared.Record.{Record}
@@ -10,9 +10,11 @@ use Rattle.model.specs.declared.Profile.{Profile}
 use Rattle.model.specs.Profiles.{NowhereLooser}
 use Rattle.model.specs.State.{State, isTripped, fresh}
 use Rattle.model.specs.Arrival.{Result}
-use Rattle.model.specs.Machine.{Call, Outcome, step, after, run}
+use Rattle.model.specs.Machine.{Call, step, after, run}
 use Rattle.model.proofs.Tests.{not-both}
 use Rattle.machine.specs.Claims.{pulsesIn}
+use Rattle.demands.specs.Demand2.{documented}
+use Rattle.demands.specs.Demand3.{Included}
 use Rattle.demands.proofs.Parted.{Apart, Apart.apart, Related, Related.joined, Related.parted, Met, Met.same, Met.fell, met}
 
 -- the call trips the box
@@ -27,14 +29,6 @@ leaves p s c = isTripped (s .core) && not (isTripped (step p s c .state .core))
 abbrev pub NoTrip : Profile → State → List Call → Type 0
 NoTrip p s [] = Unit
 NoTrip p s (d ∷ ds) = (trips p s d ≡ false) × NoTrip p (step p s d .state) ds
-
--- call by call, each pulse of the second is one of the first
-abbrev pub Included : List Outcome → List Outcome → Type 0
-Included [] [] = Unit
-Included (x ∷ xs) (y ∷ ys) =
-    ((u : Record) → List·Memᴰ u (pulsesIn (y .records)) → List·Memᴰ u (pulsesIn (x .records))) × Included xs ys
-Included [] (y ∷ ys) = ⊥
-Included (x ∷ xs) [] = ⊥
 
 -- after a call the two are related again
 next : {x y : Result} → Met x y → Related (x .state) (y .state)
@@ -63,7 +57,7 @@ module _ (p q : Profile) (l : NowhereLooser q p) where
   related r (c ∷ cs) = related (next (met p q l r c)) cs
 
   -- from two that are related on, each pulse of the second is one of the first
-  all-included : {s t : State} → Related s t → (cs : List Call) → Included (run p s cs) (run q t cs)
+  all-included : {s t : State} → Related s t → (cs : List Call) → Included (map documented (run p s cs)) (map documented (run q t cs))
   unfolding run
   all-included r [] = tt
   all-included r (c ∷ cs) = let m = met p q l r c in (pulses m, all-included (next m) cs)
@@ -76,7 +70,7 @@ module _ (p q : Profile) (l : NowhereLooser q p) where
   onward r d (e ∷ ds) u n = rw (equal (met p q l r d) u, onward joined e ds (rw u at (n .0)) (n .1))
 
   -- each pulse of the second is one of the first, from the start
-  pub included : (cs : List Call) → Included (run p fresh cs) (run q fresh cs)
+  pub included : (cs : List Call) → Included (map documented (run p fresh cs)) (map documented (run q fresh cs))
   included cs = all-included joined cs
 
   -- from equal states on, until the second trips, the two give back the same
