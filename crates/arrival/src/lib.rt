@@ -6,7 +6,6 @@ use effects::Decided;
 use machine::Stepped;
 use record::Box;
 use record::PartialFrame;
-use schedule::timing;
 ghost use mathlib.Core.Bool.{true};
 ghost use mathlib.Core.Path.{_≡_};
 ghost use mathlib.Core.List.{[], _∷_};

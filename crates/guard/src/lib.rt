@@ -35,7 +35,7 @@ pub struct Called {
 pub fn make(profile: Profile, capacity: usize) -> Made
     ensures { λ r. ⌜ r ≡ makeOf profile capacity ⌝ }
 {
-    if record::limits::good_profile(profile) {
+    if limits::good_profile(profile) {
         let ring = Ring {
             capacity,
             start: 0,

@@ -5,8 +5,6 @@ use commands::Single;
 use commands::answers;
 use model::Core;
 use model::Profile;
-use record::limits;
-use schedule::timing;
 ghost use mathlib.Core.Bool.{cond, not};
 ghost use mathlib.Core.Path.{_≡_};
 ghost use mathlib.Core.List.{[], _∷_};

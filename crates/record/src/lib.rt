@@ -1,5 +1,4 @@
 // The box record (document 01, last paragraph of "The machine"): a whole box as numbers, and the test of it.
-pub mod limits;
 mod partial;
 mod running;
 

@@ -3,7 +3,6 @@ use super::PartialFrame;
 use commands::idents;
 use commands::sizes;
 use model::Core;
-use schedule::timing;
 ghost use mathlib.Core.Bool.{_&&_};
 ghost use mathlib.Core.Path.{_≡_};
 ghost use Prim.Native.Nat.{_≤_};

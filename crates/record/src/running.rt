@@ -1,11 +1,9 @@
 // A running list with its settings, and the zeros of a box that is not running.
-use super::limits;
 use commands::Init;
 use commands::Setting;
 use model::Core;
 use model::Profile;
 use model::Run;
-use schedule::timing;
 ghost use mathlib.Core.Bool.{cond};
 ghost use mathlib.Core.Path.{_≡_};
 ghost use lib.ListN.{getD};

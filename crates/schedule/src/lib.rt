@@ -1,6 +1,4 @@
 // Document 01, "The machine": which channel of a module pulses at a position.
-pub mod timing;
-
 use commands::Init;
 use commands::Setting;
 use model::Run;

@@ -1,33 +1,21 @@
-use Prim.Native.Nat.{ℕ}
-use mathlib.Core.Path.{ap, _∙_}
+use borrow.Author.Needs.{needs}
 use Rattle.model.specs.Machine.{Call.byte}
 use Rattle.guard.proofs.Joined.{call-done}
-use borrow.Author.Needs.{needs}
 use Rattle.guard.proofs.byte.Statement.{statement}
 use Rattle.guard.proofs.byte.Tie as tie
-use Rattle.guard.proofs.byte.Reads as reads
-use Rattle.guard.proofs.byte.Lts as lts
-use Rattle.arrival.proofs.take_byte.Reads as take-byte-reads
-use Rattle.guard.proofs.filing.finish.Reads as finish-reads
-use Rattle.trace.proofs.ready.Reads as ready-reads
 
--- src/lib.rt:60:9
 ready-requires : tie.Need-ready-requires
 ready-requires c κs = search needs
 
--- src/lib.rt:61:9
 take-byte-requires : tie.Need-take-byte-requires
 take-byte-requires c κs = search needs
 
--- src/lib.rt:62:5
 finish-requires : tie.Need-finish-requires
 finish-requires c κs = search needs
 
--- src/lib.rt:56:1
 same-length : tie.Need-same-length
 same-length c = search needs
 
--- src/lib.rt:56:1
 returns : tie.Need-returns
 returns c =
     let t = c .before .before .before .before in

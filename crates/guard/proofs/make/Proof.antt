@@ -3,12 +3,6 @@ use borrow.Author.Needs.{needs}
 use Rattle.guard.proofs.Fresh.{made-fresh, refused-11, refused-13}
 use Rattle.guard.proofs.make.Statement.{statement}
 use Rattle.guard.proofs.make.Tie as tie
-use Rattle.guard.proofs.make.Reads as reads
-use Rattle.guard.proofs.make.Lts as lts
-use Rattle.guard.proofs.making.fresh_box.Reads as fresh-box-reads
-use Rattle.guard.proofs.making.refuse.Reads as refuse-reads
-use Rattle.record.proofs.limits.good_profile.Reads as good-profile-reads
-use Rattle.trace.proofs.good_ring.Reads as good-ring-reads
 
 good-profile-requires : tie.Need-good-profile-requires
 good-profile-requires c κs = search needs

@@ -2,10 +2,7 @@ use mathlib.Core.Path.{refl}
 use Rattle.record.specs.Box.{frameOf, boxOf}
 use Rattle.guard.proofs.making.fresh_box.Statement.{statement}
 use Rattle.guard.proofs.making.fresh_box.Tie as tie
-use Rattle.guard.proofs.making.fresh_box.Reads as reads
-use Rattle.guard.proofs.making.fresh_box.Lts as lts
 
--- src/making.rt:15:1
 returns : tie.Need-returns
 unfolding boxOf frameOf
 returns c = refl
