@@ -1,12 +1,12 @@
 -- Demand 1. Assumes nothing.
-use Prim.Native.Nat.{ℕ}
+use Prim.Native.Nat.{ℕ, _≤_}
 use mathlib.Core.Bool.{true, not}
-use mathlib.Core.Path.{_≡_, refl}
+use mathlib.Core.Path.{_≡_, refl, _∙_}
 use mathlib.Core.List.{List, [], _∷_}
 use lib.Dec.{ltb, eqb}
-use lib.ListN.{length, drop}
+use lib.ListN.{length, drop, length-append, length-drop}
 use lib.Seq.{drop-at}
-use borrow.Author.Tests.{eqb-true, not-false}
+use borrow.Author.Tests.{eqb-true, ltb-false, not-false}
 use native.Mathlib.Omega.{arith}
 use Rattle.commands.specs.Answers.{_when_, firstOf}
 use Rattle.commands.specs.Commands.{Command, Command.init, Command.update, Command.stop, Command.single, good}
@@ -87,11 +87,14 @@ writer-keeps c out h =
     (λ e.
     let z : writeAnswer c out ≡ 0 = eqb-true (writeAnswer c out) 0 e in
     let t = passed (not (good c)) 4 (firstOf (16 when ltb (length out) (size c) ∷ [])) (omega arith) z in
+    let n = frame-size c h (not-false (good c) (t .0)) in
+    let fits : size c ≤ length out = ltb-false (length out) (size c) (passed (ltb (length out) (size c)) 16 0 (omega arith) (t .1) .0) in
     record {
-      past = rw e (drop-at (frame c) (drop (size c) out) (size c) (frame-size c h (not-false (good c) (t .0))));
+      size = rw e (length-append (frame c) (drop (size c) out) ∙ omega (arith, n, fits, length-drop (size c) out));
+      past = rw e (drop-at (frame c) (drop (size c) out) (size c) n);
       refused = λ l. not-both l (rw z refl);
     })
-    (λ e. record { past = rw e refl; refused = rw e (λ l. refl) })
+    (λ e. record { size = rw e refl; past = rw e refl; refused = rw e (λ l. refl) })
 
 -- ---- the making of a box
 

@@ -38,6 +38,7 @@ pub record ReadoutKeeps (b : Box) (buf : List ℕ) (at : Part) (out : List ℕ) 
 
 -- a writer
 pub record WriterKeeps (c : Command) (out : List ℕ) : Type 0 where
+  pub size : length (written c out) ≡ length out
   pub past : drop (wrote c out .used) (written c out) ≡ drop (wrote c out .used) out
   pub refused : leavesAll (wrote c out .answer) ≡ true → written c out ≡ out
 

@@ -9,11 +9,12 @@ use record::Box;
 use record::PartialFrame;
 use trace::Ring;
 ghost use mathlib.Core.Path.{_≡_};
+ghost use Rattle.model.specs.State.{still};
 ghost use Rattle.guard.specs.Making.{freshBox, zeroBox};
 
-// Idle at clock 0, no hold, no frame open, an empty ring.
-pub fn fresh_box(profile: Profile, capacity: usize) -> Box
-    ensures { λ r. ⌜ r ≡ freshBox profile capacity ⌝ }
+// What a box has that is not running.
+fn no_run() -> Run
+    ensures { λ r. ⌜ r ≡ still ⌝ }
 {
     let settings = [Setting {
         mode: 0,
@@ -27,7 +28,7 @@ pub fn fresh_box(profile: Profile, capacity: usize) -> Box
         group: 0,
         main: 0,
     };
-    let run = Run {
+    Run {
         list,
         settings,
         waits: 0,
@@ -35,7 +36,14 @@ pub fn fresh_box(profile: Profile, capacity: usize) -> Box
         position: 0,
         cycle: 0,
         watch: 0,
-    };
+    }
+}
+
+// Idle at clock 0, no hold, no frame open, an empty ring.
+pub fn fresh_box(profile: Profile, capacity: usize) -> Box
+    ensures { λ r. ⌜ r ≡ freshBox profile capacity ⌝ }
+{
+    let run = no_run();
     let core = Core {
         holda: 0,
         holdb: 0,
