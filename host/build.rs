@@ -1,46 +1,50 @@
-//! Has the library `boundary` of the repository proved and built, and links it.
+//! Has the libraries of the repository that export calls proved and built, and links them.
 //!
-//! `YARROWBELL_LIBRARY` may name a folder that holds another `libboundary.a`, as a spoilt one that
-//! the tests must catch; nothing is built then.
+//! `YARROWBELL_LIBRARY` may name a folder that holds other archives of the same names, as spoilt
+//! ones that the tests must catch; nothing is built then.
 
 use std::io::ErrorKind;
 use std::path::{Path, PathBuf};
 use std::process::Command;
 use std::{env, fs};
 
-const ARCHIVE: &str = "libboundary.a";
+/// The frames, the ring and the box by value; the box lent by reference.
+const LIBRARIES: [&str; 2] = ["boundary", "lent"];
 
 fn main() {
     println!("cargo:rerun-if-env-changed=YARROWBELL_LIBRARY");
-    let archive = match env::var_os("YARROWBELL_LIBRARY") {
-        Some(folder) => watched(PathBuf::from(folder).join(ARCHIVE)),
-        None => built(),
-    };
-    // `rt ci` clears its target folder, so the archive is linked from a copy of our own.
+    // `rt ci` clears its target folder, so the archives are linked from copies of our own.
     let own = PathBuf::from(env::var_os("OUT_DIR").expect("cargo sets OUT_DIR"));
-    if let Err(error) = fs::copy(&archive, own.join(ARCHIVE)) {
-        panic!("cannot copy {}: {error}", archive.display());
-    }
     println!("cargo:rustc-link-search=native={}", own.display());
-    println!("cargo:rustc-link-lib=static=boundary");
+    for library in LIBRARIES {
+        let archive = format!("lib{library}.a");
+        let made = match env::var_os("YARROWBELL_LIBRARY") {
+            Some(folder) => watched(PathBuf::from(folder).join(&archive)),
+            None => built(library).join(&archive),
+        };
+        if let Err(error) = fs::copy(&made, own.join(&archive)) {
+            panic!("cannot copy {}: {error}", made.display());
+        }
+        println!("cargo:rustc-link-lib=static={library}");
+    }
 }
 
-/// The archive that `rt` builds from the repository's crates. It is not watched itself: `rt` writes
-/// it anew each time, which would have each build begin with a proof.
-fn built() -> PathBuf {
+/// The folder of the archive that `rt` builds from the repository's crates. The archive is not
+/// watched itself: `rt` writes it anew each time, which would have each build begin with a proof.
+fn built(library: &str) -> PathBuf {
     let package = env::var_os("CARGO_MANIFEST_DIR").expect("cargo sets CARGO_MANIFEST_DIR");
     let top = Path::new(&package).parent().expect("this package lies in the repository");
     watched(top.join("crates"));
     watched(top.join("crates.txt"));
-    match Command::new("rt").args(["staticlib", "boundary"]).current_dir(top).status() {
-        Ok(status) if status.success() => top.join("target/staticlib").join(ARCHIVE),
-        Ok(status) => panic!("`rt staticlib boundary` failed in {}: {status}", top.display()),
+    match Command::new("rt").args(["staticlib", library]).current_dir(top).status() {
+        Ok(status) if status.success() => top.join("target/staticlib"),
+        Ok(status) => panic!("`rt staticlib {library}` failed in {}: {status}", top.display()),
         Err(error) if error.kind() == ErrorKind::NotFound => {
             panic!(
-                "`rt` is not on the PATH: it proves and builds the library that this package links"
+                "`rt` is not on the PATH: it proves and builds the libraries that this package links"
             )
         }
-        Err(error) => panic!("cannot run `rt staticlib boundary`: {error}"),
+        Err(error) => panic!("cannot run `rt staticlib {library}`: {error}"),
     }
 }
 

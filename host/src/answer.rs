@@ -74,4 +74,9 @@ impl Answer {
     pub fn number(self) -> u8 {
         self as u8
     }
+
+    /// The answer that the library gave by its number.
+    pub(crate) fn known(number: u8) -> Answer {
+        Answer::from_number(number).expect("the library answers by the numbers of document 01")
+    }
 }

@@ -42,7 +42,7 @@ pub fn read(bytes: &[u8], count: usize) -> Result<Frame, Answer> {
             (read.answer, Command::Single(read.single), read.used)
         }
     };
-    match known(answer) {
+    match Answer::known(answer) {
         Answer::Done => Ok(Frame { command, used }),
         refusal => Err(refusal),
     }
@@ -57,7 +57,7 @@ pub fn write(command: &Command, count: usize, out: &mut [u8]) -> Result<usize, A
         Command::Stop => calls::write_stop(out),
         Command::Single(single) => calls::write_single(*single, out),
     };
-    match known(answer) {
+    match Answer::known(answer) {
         Answer::Done => Ok(used),
         refusal => Err(refusal),
     }
@@ -66,8 +66,4 @@ pub fn write(command: &Command, count: usize, out: &mut [u8]) -> Result<usize, A
 /// The reply byte to a decided command, of whose Ident only the low two bits count.
 pub fn reply(ident: u8, answer: Answer) -> u8 {
     calls::reply(ident, answer.number())
-}
-
-fn known(answer: u8) -> Answer {
-    Answer::from_number(answer).expect("the library answers by the numbers of document 01")
 }

@@ -1,17 +1,25 @@
-//! Safe calls to the proved reader and writer of ScienceMode frames (document 01, "The four
-//! frames") and to the proved trace ring ("The ring").
+//! Safe calls to the proved guard unit of document 01: its box, its trace ring, and the reader and
+//! writer of ScienceMode frames.
 //!
-//! `read`, `write` and `reply` are what a host program uses. `calls` has one function for each
-//! export of the library, for tests that drive them one by one; the ring has no other calls.
+//! `Guard`, and `read`, `write` and `reply` for frames, are what a host program uses. `calls` has
+//! one function for each export of the library, for tests that drive them one by one.
 //!
 //! `cargo test` in this folder has the library proved and built first, and compares it with the
-//! codec and the ring in `independent/`, which share nothing with it.
+//! codec, the ring and the machine in `independent/`, which share nothing with it.
 
 mod answer;
 pub mod calls;
 mod frames;
+mod guard;
+mod profile;
 pub mod raw;
+mod refusal;
+mod told;
 
 pub use answer::Answer;
 pub use frames::{read, reply, write, Command, Frame};
-pub use raw::{Init, Setting, Single};
+pub use guard::Guard;
+pub use profile::OutOfRange;
+pub use raw::{Init, Profile, Released, Setting, Single};
+pub use refusal::{About, Refusal};
+pub use told::Told;

@@ -17,6 +17,7 @@
 //   Readout            16 bytes: answer 0, used 8 (8 bytes)
 // Structs go by value. A reader hands back the report of the one reader: its answer, the Ident of the frame, the bytes
 // used, and the fields of its own kind, which are zero where the frame is refused or of another kind.
+pub mod by_value;
 pub mod init;
 pub mod reply;
 pub mod ring;

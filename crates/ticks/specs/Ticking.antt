@@ -1,5 +1,5 @@
 -- What a tick gives back and leaves of a good box.
-use Prim.Native.Nat.{ℕ, _+_}
+use Prim.Native.Nat.{ℕ, _+_, _-_}
 use mathlib.Core.Bool.{cond}
 use mathlib.Core.List.{List, [], _∷_}
 use lib.Dec.{ltb, eqb}
@@ -18,6 +18,10 @@ use Rattle.machine.specs.Said.{nothing, released, pulseRecord, pulseOf, records
 -- the partial frame stays
 abbrev pub withCore : Box → ℕ → Core → Box
 withCore b clock m = record { profile = b .profile; clock = clock; core = m; partial = b .partial; ring = b .ring }
+
+-- holds fall, and no list runs
+abbrev pub rested : Core → Core
+rested m = record { holda = m .holda - 1; holdb = m .holdb - 1; state = m .state; run = m .run }
 
 unfoldable pub ticked : Box → ℕ → Done → Stepped
 ticked b clock d =

@@ -1,6 +1,7 @@
-//! A second codec of the four ScienceMode command frames and a second trace ring, written from the
-//! papers alone and sharing nothing with the library that they are compared with. Where a push meets
-//! bytes that do not split, which no paper speaks of, the ring follows the repository's decision.
+//! A second codec of the four ScienceMode command frames, a second trace ring and a second box,
+//! written from the papers alone and sharing nothing with the library that they are compared with.
+//! Where a push meets bytes that do not split, which no paper speaks of, the ring follows the
+//! repository's decision.
 //!
 //! Source 003 is "ScienceMode - RehaStim Stimulation Device", 21st September 2009; document 01 is
 //! the specification of this repository, which rules where source 003 leaves a choice.
@@ -10,10 +11,14 @@
 //!
 //! The ring is there twice: `trace` has it from the records pushed, `ring` from the bytes of a
 //! buffer, whoever wrote them.
+//!
+//! These are slow and near to the papers. `plain` has the codec and the ring once more, and the box,
+//! as fast as plain safe Rust can be made.
 
 mod codec;
 mod command;
 mod good;
+pub mod plain;
 mod record;
 mod ring;
 mod tables;

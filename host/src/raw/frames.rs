@@ -1,16 +1,4 @@
-//! The exports of the library `boundary` as the C ABI of x86-64 Linux has them.
-//!
-//! Nothing compares these declarations with the library's source. Both sides rely on this:
-//!
-//! - a struct has its fields in the order written, each at the next multiple of its own size (of
-//!   its greatest number's, for a struct or an array), and is padded at its end to a multiple of
-//!   its greatest number's size; `usize` has 8 bytes;
-//! - structs are passed and returned by value;
-//! - a byte slice is passed as a pointer and then its length, as two parameters;
-//! - a call neither keeps a pointer nor goes past its length, and is given to itself what it may
-//!   write.
-//!
-//! The sizes and offsets that follow are pinned in the tests.
+//! The exports for frames.
 
 /// The variables of an Init frame: N_Factor, Channel_Stim, Channel_Lf, Group_Time, Main_Time.
 #[derive(Clone, Copy, Debug, Default, PartialEq, Eq)]
@@ -96,40 +84,6 @@ pub struct ReadSingle {
     pub single: Single,
 }
 
-/// Where a ring's part lies in the lent buffer.
-#[derive(Clone, Copy, Debug, Default, PartialEq, Eq)]
-#[repr(C)]
-pub struct Part {
-    pub offset: usize,
-    pub size: usize,
-}
-
-/// What a box keeps of its ring: its capacity, where its oldest byte stands in the part, and how
-/// many bytes are used from there on, round at the part's end.
-#[derive(Clone, Copy, Debug, Default, PartialEq, Eq)]
-#[repr(C)]
-pub struct Ring {
-    pub capacity: usize,
-    pub start: usize,
-    pub used: usize,
-}
-
-/// What a push reports, with the ring that it leaves.
-#[derive(Clone, Copy, Debug, Default, PartialEq, Eq)]
-#[repr(C)]
-pub struct Pushed {
-    pub answer: u8,
-    pub ring: Ring,
-}
-
-/// What a readout reports.
-#[derive(Clone, Copy, Debug, Default, PartialEq, Eq)]
-#[repr(C)]
-pub struct Readout {
-    pub answer: u8,
-    pub used: usize,
-}
-
 extern "C" {
     pub(crate) fn yarrowbell_read_init(frame: *const u8, length: usize, count: usize) -> ReadInit;
     pub(crate) fn yarrowbell_read_update(
@@ -153,45 +107,4 @@ extern "C" {
     pub(crate) fn yarrowbell_write_stop(out: *mut u8, length: usize) -> Wrote;
     pub(crate) fn yarrowbell_write_single(single: Single, out: *mut u8, length: usize) -> Wrote;
     pub(crate) fn yarrowbell_reply(ident: u8, answer: u8) -> u8;
-    pub(crate) fn yarrowbell_ring_ready(
-        buffer: *const u8,
-        length: usize,
-        at: Part,
-        ring: Ring,
-    ) -> u8;
-    pub(crate) fn yarrowbell_ring_push_answer(
-        buffer: *mut u8,
-        length: usize,
-        at: Part,
-        ring: Ring,
-        clock: u32,
-        ident: u8,
-        answer: u8,
-    ) -> Pushed;
-    pub(crate) fn yarrowbell_ring_push_pulse(
-        buffer: *mut u8,
-        length: usize,
-        at: Part,
-        ring: Ring,
-        clock: u32,
-        channel: u8,
-        width: u16,
-        current: u8,
-    ) -> Pushed;
-    pub(crate) fn yarrowbell_ring_push_trip(
-        buffer: *mut u8,
-        length: usize,
-        at: Part,
-        ring: Ring,
-        clock: u32,
-        cause: u8,
-    ) -> Pushed;
-    pub(crate) fn yarrowbell_ring_read_out(
-        buffer: *const u8,
-        length: usize,
-        at: Part,
-        ring: Ring,
-        out: *mut u8,
-        room: usize,
-    ) -> Readout;
 }

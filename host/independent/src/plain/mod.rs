@@ -1,0 +1,7 @@
+//! Codec, ring and box in plain safe Rust, made to be fast: in place, without allocation, by shifts
+//! and masks. The entry points are never inlined, so that a call is a call.
+
+mod answer;
+pub mod codec;
+pub mod machine;
+pub mod ring;

@@ -1,0 +1,46 @@
+//! The soak for the gate: long enough to meet everything that there is to meet.
+
+use soak::met::Met;
+use soak::{history, pairs};
+use std::process::Command;
+
+/// How often each thing must have been met at least.
+const OFTEN: u64 = 40;
+
+fn all_met(lines: Vec<(String, u64)>, least: u64) {
+    for (what, count) in lines {
+        assert!(count >= least, "{what}: met {count} times, which is too seldom");
+    }
+}
+
+#[test]
+fn histories() {
+    let mut met = Met::default();
+    let mut seeds = 1_000_000..;
+    while met.calls < 8_000_000 {
+        let seed = seeds.next().expect("there are seeds enough");
+        history::run(seed, &mut met).unwrap_or_else(|failure| panic!("{failure}"));
+    }
+    all_met(met.of_histories(), OFTEN);
+}
+
+#[test]
+fn profiles_that_are_nowhere_looser() {
+    let mut met = Met::default();
+    let mut seeds = 2_000_000..;
+    while met.pair_calls < 4_000_000 {
+        let seed = seeds.next().expect("there are seeds enough");
+        pairs::run(seed, &mut met).unwrap_or_else(|failure| panic!("{failure}"));
+    }
+    all_met(met.of_pairs(), 1_000);
+}
+
+#[test]
+fn the_program() {
+    let soak =
+        Command::new(env!("CARGO_BIN_EXE_soak")).args(["--calls", "5000", "--seed", "3"]).output();
+    let output = soak.expect("the program runs");
+    let text = String::from_utf8(output.stdout).expect("it prints text");
+    assert!(output.status.success(), "{text}");
+    assert!(text.trim_end().ends_with("calls, all boxes agree"), "{text}");
+}

@@ -1,0 +1,9 @@
+//! The box: where its numbers lie on both sides of the boundary, and the guard that a host program
+//! uses.
+
+mod bytes;
+mod layouts;
+mod papers;
+mod places;
+mod refusals;
+mod replies;
