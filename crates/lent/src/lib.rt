@@ -1,4 +1,5 @@
-// The box lent by reference and changed where it lies: each call is the call by value, its box stored.
+// The box lent by reference and changed where it lies: each call is the call by value, its box stored. Exported, in the layout that
+// the head of `boundary` tells; a crate of its own, as its walks take long to check.
 use machine::Said;
 use record::Box;
 use trace::Part;

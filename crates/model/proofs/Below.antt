@@ -9,7 +9,7 @@ use lib.ListN.{length, getD, length-append, List·getD-append}
 use lib.Seq.{getD-at}
 use borrow.Author.Tests.{eqb-true, eqb-false}
 use Rattle.commands.proofs.Tests.{both}
-use Rattle.model.specs.Below.{allBelow, someBelow, rowBelow}
+use Rattle.model.specs.Below.{allBelow, someBelow, mostBelow, rowBelow}
 use Rattle.model.proofs.Tests.{_and_, either-way, not-both}
 
 -- a fact of each number below n, and of n
@@ -44,6 +44,11 @@ some-below (suc n) f e =
 -- it holds below n where it holds at a number below n
 pub found-below : (n : ℕ) (f : ℕ → Bool) (i : ℕ) → i < n → f i ≡ true → someBelow n f ≡ true
 found-below n f i h e = either-way (someBelow n f) (λ t. t) (λ t. not-both e (none-below n f t i h))
+
+-- the largest of zeros
+pub most-zero : (n : ℕ) (f : ℕ → ℕ) → ((i : ℕ) → i < n → f i ≡ 0) → mostBelow n f ≡ 0
+most-zero zero f h = refl
+most-zero (suc n) f h = rw (most-zero n f (λ i l. h i (omega arith)), h n (omega arith))
 
 -- a row's length, and what stands in it
 pub row-length : {A : Type 0} (n : ℕ) (f : ℕ → A) → length (rowBelow n f) ≡ n

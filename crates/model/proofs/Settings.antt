@@ -1,11 +1,11 @@
 -- Settings that fit a list: silence, and what an Update asks for. Assumes nothing.
 use Prim.Native.Nat.{ℕ, zero, suc, _-_, _<_}
 use mathlib.Core.Bool.{true, false, cond, _||_, or-true}
-use mathlib.Core.Path.{_≡_, refl}
+use mathlib.Core.Path.{_≡_, refl, ap, _∙_}
 use mathlib.Core.List.{List, [], _∷_}
 use native.Mathlib.Omega.{arith}
 use lib.Dec.{ltb, eqb, leb·suc-zero}
-use lib.ListN.{getD, getD-replicate}
+use lib.ListN.{getD}
 use borrow.Author.Tests.{le-leb, eq-eqb, eqb-true}
 use Rattle.commands.specs.declared.Init.{Init}
 use Rattle.commands.specs.declared.Setting.{Setting}
@@ -16,9 +16,9 @@ use Rattle.model.specs.declared.Profile.{Profile}
 use Rattle.model.specs.Channels.{inSet, many, silence, placed}
 use Rattle.model.specs.Timing.{keepsMain, largestMode, updateTiming}
 use Rattle.model.specs.Profiles.{overAt, overLimits}
-use Rattle.model.specs.Good.{goodAt, isZero, settingFits, fits}
+use Rattle.model.specs.Good.{goodAt, isZero, allZero, settingFits, fits}
 use Rattle.model.proofs.Tests.{_and_, either-way}
-use Rattle.model.proofs.Below.{all-below, none-below, row-at}
+use Rattle.model.proofs.Below.{each-below, all-below, none-below, most-zero, row-at}
 
 -- a setting whose variables sum to 0 is good
 zero-good : (x : Setting) → isZero x ≡ true → goodSetting x ≡ true
@@ -36,13 +36,28 @@ zero-fits : (p : Profile) (stim i : ℕ) → settingFits p stim i noSetting ≡ 
 unfolding settingFits goodAt
 zero-fits p stim i = rw (zero-under p i, or-true (inSet stim i))
 
--- silence fits a list that keeps its timing rule with n = 1
-pub silence-fits : (p : Profile) (v : Init) → keepsMain v 1 ≡ true → fits p v silence ≡ true
+-- a setting whose variables sum to 0 has none
+zero-is : (x : Setting) → isZero x ≡ true → x ≡ noSetting
+zero-is x e =
+    let h : settingSum x ≡ 0 = eqb-true (settingSum x) 0 e in
+    let mode : x .mode ≡ 0 = omega arith in
+    let width : x .width ≡ 0 = omega arith in
+    let current : x .current ≡ 0 = omega arith in
+    ap (λ (n : ℕ). setting n (x .width) (x .current)) mode ∙ ap (λ (n : ℕ). setting 0 n (x .current)) width ∙ ap (setting 0 0) current
+  where
+    setting : ℕ → ℕ → ℕ → Setting
+    setting mode width current = record { mode = mode; width = width; current = current }
+
+-- settings that are all zero fit a list that keeps its timing rule with n = 1
+pub zeros-fit : (p : Profile) (v : Init) (settings : List Setting) → keepsMain v 1 ≡ true → allZero settings ≡ true → fits p v settings ≡ true
 unfolding fits largestMode
-silence-fits p v e =
-    all-below 8 (λ i. settingFits p (v .stim) i (getD silence i noSetting))
-    (λ i h. rw (getD-replicate 8 i noSetting noSetting h) (zero-fits p (v .stim) i))
-    and e
+zeros-fit p v settings e z =
+    let same : (i : ℕ) → i < 8 → getD settings i noSetting ≡ noSetting = λ i h. zero-is (getD settings i noSetting) (each-below 8 (λ i. isZero (getD settings i noSetting)) z i h) in
+    all-below 8 (λ i. settingFits p (v .stim) i (getD settings i noSetting)) (λ i h. rw (same i h) (zero-fits p (v .stim) i))
+    and rw (most-zero 8 (λ i. getD settings i noSetting .mode) (λ i h. ap (λ (x : Setting). x .mode) (same i h))) e
+
+pub silence-fits : (p : Profile) (v : Init) → keepsMain v 1 ≡ true → fits p v silence ≡ true
+silence-fits p v e = zeros-fit p v silence e refl
 
 -- settings over no limit, one by one
 under : (p : Profile) (settings : List Setting) → overLimits p settings ≡ false → (i : ℕ) → i < 8

@@ -5,3 +5,4 @@ pub mod Partials
 pub mod Joins
 pub mod Facts
 pub mod Carries
+pub mod Waits

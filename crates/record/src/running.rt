@@ -4,12 +4,14 @@ use commands::Setting;
 use model::Core;
 use model::Profile;
 use model::Run;
-ghost use mathlib.Core.Bool.{cond};
+ghost use mathlib.Core.Bool.{true, cond};
 ghost use mathlib.Core.Path.{_≡_};
 ghost use lib.ListN.{getD};
 ghost use Rattle.commands.specs.Commands.{noSetting};
 ghost use Rattle.model.specs.Below.{allBelow};
 ghost use Rattle.model.specs.State.{isRunning};
+ghost use Rattle.model.specs.Timing.{initTiming};
+ghost use Rattle.record.specs.Waiting.{waitingFits};
 ghost use Rattle.model.specs.Good.{goodList, isZero, allZero, goodAt, fits, goodRun, zeroList, zeroRun, goodCore};
 
 fn good_list(v: Init) -> bool
@@ -65,6 +67,16 @@ fn fit(p: Profile, v: Init, settings: [Setting; 8]) -> bool
         & timing::update_timing(v, settings)
 }
 
+// The waiting update: its settings fit, or are zero while none waits, which then fit the list too.
+fn good_waiting(p: Profile, v: Init, waits: u8, waiting: [Setting; 8]) -> bool
+    ensures { λ o. ⌜ (initTiming v ≡ true → o ≡ waitingFits p v waits waiting) ⌝ }
+{
+    if waits == 1 {
+        return fit(p, v, waiting);
+    }
+    (waits == 0) & all_zero(waiting)
+}
+
 fn good_run(p: Profile, clock: u32, r: Run) -> bool
     ensures { λ o. ⌜ o ≡ goodRun p clock r ⌝ }
 {
@@ -76,9 +88,7 @@ fn good_run(p: Profile, clock: u32, r: Run) -> bool
         & timing::init_timing(v)
         & (p.shortest as u32 <= period)
         & fit(p, v, settings)
-        & fit(p, v, waiting)
-        & (r.waits <= 1)
-        & ((r.waits == 1) | all_zero(waiting))
+        & good_waiting(p, v, r.waits, waiting)
         & ((r.position as u32) < period)
         & (r.cycle <= clock)
         & (r.watch < p.watchdog)

@@ -1,5 +1,5 @@
 use borrow.Author.Needs.{needs}
-use Rattle.model.specs.Good.{goodRun}
+use Rattle.record.proofs.Waits.{run-regroups}
 use Rattle.record.proofs.running.good_run.Statement.{statement}
 use Rattle.record.proofs.running.good_run.Tie as tie
 
@@ -18,25 +18,21 @@ cast-result c = search needs
 fit-requires : tie.Need-fit-requires
 fit-requires c κs = search needs
 
-fit-requires-2 : tie.Need-fit-requires-2
-fit-requires-2 c κs = search needs
-
-all-zero-requires : tie.Need-all-zero-requires
-all-zero-requires c κs = search needs
+good-waiting-requires : tie.Need-good-waiting-requires
+good-waiting-requires c κs = search needs
 
 cast-result-2 : tie.Need-cast-result-2
 cast-result-2 c = search needs
 
 returns : tie.Need-returns
-unfolding goodRun
 returns c =
-    let zero = c .before .before .before .before in
-    let second = zero .before .before .before in
-    let first = second .before in
+    let waiting = c .before .before .before .before in
+    let first = waiting .before in
     let timing = first .before .before in
     let list = timing .before in
-    rw
-    (list .before .main-period .ensures, list .good-list .ensures, timing .init-timing .ensures, first .fit .ensures, second .fit2 .ensures, zero .all-zero .ensures)
+    let a = list .before .before .before .before .before .args in
+    rw (list .before .main-period .ensures, list .good-list .ensures, timing .init-timing .ensures, first .fit .ensures)
+    (run-regroups (a .p) (a .clock) (a .r) (waiting .good-waiting .result) (waiting .good-waiting .ensures))
 
 pub good-run-spec : {M : Type 1} → statement M
 good-run-spec =
@@ -47,7 +43,6 @@ good-run-spec =
     init-timing-requires
     cast-result
     fit-requires
-    fit-requires-2
-    all-zero-requires
+    good-waiting-requires
     cast-result-2
     returns)

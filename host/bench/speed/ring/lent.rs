@@ -1,9 +1,9 @@
 //! A lent buffer with a ring laid in it.
 
-use crate::plain;
+use super::bytes_of;
+use independent::{Part, Ring};
 use rand::rngs::SmallRng;
 use rand::{Rng, SeedableRng};
-use yarrowbell::raw::{Part, Ring};
 
 #[derive(Clone)]
 pub struct Lent {
@@ -45,7 +45,7 @@ impl Plan {
         rng.fill(&mut buffer[..]);
         let mut used = 0;
         for &kind in kinds {
-            let record = plain::length(kind).expect("a known kind");
+            let record = bytes_of(kind);
             for index in 0..record {
                 let byte = &mut buffer[offset + (start + used + index) % capacity];
                 match bodies {

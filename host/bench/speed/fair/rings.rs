@@ -1,15 +1,12 @@
-//! Both sides must do the same work before their times are compared.
+//! Random rings, good and bad.
 
-use crate::lent::{Bodies, Lent, Plan};
-use crate::record::{self, ANSWER, TRIP};
+use super::same::{same, same_all};
+use crate::ring::{any, bytes_of, Bodies, Lent, Library, Plain, Plan, Side, ANSWER, TRIP};
 use crate::seeded::seeded;
-use crate::sides::{LIBRARY, PLAIN};
-use crate::{plain, MOST};
+use crate::MOST;
 use rand::rngs::SmallRng;
 use rand::Rng;
-use std::fmt::Debug;
 
-/// Stops at the first difference between the two sides, on random rings good and bad.
 pub fn check() {
     const CASES: u64 = 10_000;
     seeded(0..CASES, |rng| {
@@ -18,7 +15,7 @@ pub fn check() {
         let bad = spoilt(rng, good);
         compare(rng, &bad);
     });
-    println!("library and plain ring agree on {CASES} random rings, each whole and spoilt");
+    println!("library and plain agree on {CASES} random rings, each whole and spoilt");
 }
 
 /// A ring of whole records, of any fullness.
@@ -35,7 +32,7 @@ fn good(rng: &mut SmallRng) -> Lent {
     let mut used = 0;
     let kinds: Vec<u8> = std::iter::repeat_with(|| rng.gen_range(ANSWER..=TRIP))
         .take_while(|&kind| {
-            used += plain::length(kind).expect("a known kind");
+            used += bytes_of(kind);
             used <= most
         })
         .collect();
@@ -75,49 +72,26 @@ fn odd_number(rng: &mut SmallRng, about: usize) -> usize {
 /// The split test, a readout, and a few pushes one after the other.
 fn compare(rng: &mut SmallRng, lent: &Lent) {
     let Lent { buffer, at, ring } = lent;
-    let told = format!("{at:?} of a buffer of {} bytes, {ring:?}", buffer.len());
-
-    let ready = [&LIBRARY, &PLAIN].map(|side| (side.ready)(buffer, *at, *ring));
-    same("ring_ready", &told, &ready);
+    let told = (at, buffer.len(), ring);
+    let [library, plain] = [Library::ready, Plain::ready].map(|ready| ready(buffer, *at, ring));
+    same("the split test", &told, &library, &plain);
 
     let room = odd_number(rng, ring.used).min(MOST + 2);
     let mut outs = [vec![0xA5; room], vec![0xA5; room]];
-    let [first, second] = &mut outs;
-    let read = [(&LIBRARY, first), (&PLAIN, second)]
-        .map(|(side, out)| (side.read_out)(buffer, *at, *ring, out));
-    let told_room = format!("{told}, {room} bytes of room");
-    same("ring_read_out", &told_room, &read);
-    same_bytes("the bytes of ring_read_out", &told_room, &outs);
+    let library = Library::read_out(buffer, *at, ring, &mut outs[0]);
+    let plain = Plain::read_out(buffer, *at, ring, &mut outs[1]);
+    same("a readout", &(told, room), &library, &plain);
+    same_all("bytes of a readout", &(told, room), &outs[0], &outs[1]);
 
     let mut buffers = [buffer.clone(), buffer.clone()];
-    let mut left = *ring;
+    let mut rings = [*ring; 2];
     for _ in 0..rng.gen_range(1..=8) {
         let kind = rng.gen_range(ANSWER..=TRIP);
-        let record = record::any(rng, kind);
-        let [first, second] = &mut buffers;
-        let pushed = [(&LIBRARY, first), (&PLAIN, second)]
-            .map(|(side, buffer)| side.push(buffer, *at, left, record));
-        let told_push = format!("{told}, at {left:?}, {record:?}");
-        same("a push", &told_push, &pushed);
-        same_bytes("the buffer after a push", &told_push, &buffers);
-        left = pushed[0].ring;
+        let record = any(rng, kind);
+        let told = (told, rings[0], record);
+        let library = Library::push(&mut buffers[0], *at, &mut rings[0], record);
+        let plain = Plain::push(&mut buffers[1], *at, &mut rings[1], record);
+        same("a push", &told, &(library, rings[0]), &(plain, rings[1]));
+        same_all("bytes after a push", &told, &buffers[0], &buffers[1]);
     }
-}
-
-fn same<T: PartialEq + Debug>(what: &str, told: &str, [library, plain]: &[T; 2]) {
-    if library != plain {
-        differ(what, told, &format!("library {library:?}, plain {plain:?}"));
-    }
-}
-
-fn same_bytes(what: &str, told: &str, [library, plain]: &[Vec<u8>; 2]) {
-    let mut pairs = library.iter().zip(plain);
-    if let Some(place) = pairs.position(|(library, plain)| library != plain) {
-        let found = (library[place], plain[place]);
-        differ(what, told, &format!("byte {place}: library {}, plain {}", found.0, found.1));
-    }
-}
-
-fn differ(what: &str, told: &str, found: &str) -> ! {
-    panic!("no fair comparison: library and plain ring differ in {what}\n{told}\n{found}");
 }

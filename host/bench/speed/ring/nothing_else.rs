@@ -1,20 +1,22 @@
 //! The split test on rings of one number of records that differ in all the rest.
 
-use crate::lent::{Bodies, Lent, Plan};
-use crate::meter::Meter;
-use crate::record::{mixed, ANSWER, PULSE, TRIP};
-use crate::split::same_ring;
-use crate::table::Row;
+use super::split::{row, same_ring, EACH};
+use super::{mixed, Bodies, Lent, Plan, ANSWER, PULSE, TRIP};
+use crate::meter::{Meter, Pair};
+use crate::table::Table;
 
 const RECORDS: usize = 64;
 
-pub fn variants(meter: &mut Meter) -> Vec<Row> {
-    let rows = rings().into_iter().filter_map(|(what, lent)| {
-        let pair =
-            meter.pair("64 records", what, |side, bencher| same_ring(side, bencher, &lent))?;
-        Some(Row { what: what.into(), records: RECORDS, pair })
+pub fn table(meter: &mut Meter) -> Table {
+    let measured = rings().into_iter().filter_map(|(what, lent)| {
+        Some((what, same_ring(meter, "ring of 64 records", what, &lent)?))
     });
-    rows.collect()
+    let pairs: Vec<(&str, Pair)> = measured.collect();
+    let library = range(&pairs, |pair| pair.library);
+    let plain = range(&pairs, |pair| pair.plain);
+    let note = format!("For each record the library takes {library}, plain {plain}.");
+    let rows = pairs.into_iter().map(|(what, pair)| row(what, RECORDS, pair)).collect();
+    Table { further: EACH, note, ..Table::new("ring: split test, 64 records", rows) }
 }
 
 fn rings() -> Vec<(&'static str, Lent)> {
@@ -37,4 +39,11 @@ fn rings() -> Vec<(&'static str, Lent)> {
         ("kind 02 alone, 9 bytes", usual.laid(&[PULSE; RECORDS])),
         ("kind 03 alone, 6 bytes", usual.laid(&[TRIP; RECORDS])),
     ]
+}
+
+/// The smallest and the greatest time for each record.
+fn range(pairs: &[(&str, Pair)], side: fn(&Pair) -> f64) -> String {
+    let times = || pairs.iter().map(|(_, pair)| side(pair) / RECORDS as f64);
+    let (least, most) = (times().fold(f64::MAX, f64::min), times().fold(0.0, f64::max));
+    format!("{least:.2} to {most:.2} ns ({:.2} times)", most / least)
 }

@@ -23,6 +23,16 @@ pub fn any(rng: &mut SmallRng, kind: u8) -> Record {
     }
 }
 
+/// How many bytes a record of this kind has.
+pub fn bytes_of(kind: u8) -> usize {
+    match kind {
+        ANSWER => 7,
+        PULSE => 9,
+        TRIP => 6,
+        _ => panic!("no kind of record: {kind}"),
+    }
+}
+
 /// As many of each kind, as nearly as can be, in an order that `seed` gives.
 pub fn mixed(count: usize, seed: u64) -> Vec<u8> {
     let mut kinds: Vec<u8> = [ANSWER, PULSE, TRIP].into_iter().cycle().take(count).collect();

@@ -1,10 +1,8 @@
 //! Pushes: long runs of them on a full ring, and single cases again and again.
 
-use crate::lent::{Lent, Plan};
-use crate::meter::{Meter, Pair};
-use crate::plain;
-use crate::record::{self, mixed, ANSWER, PULSE, TRIP};
-use crate::sides::Side;
+use super::{any, bytes_of, mixed, Lent, Library, Plain, Plan, Side, ANSWER, PULSE, TRIP};
+use crate::meter::Meter;
+use crate::table::Row;
 use crate::MOST;
 use criterion::Bencher;
 use independent::Record;
@@ -12,9 +10,11 @@ use rand::rngs::SmallRng;
 use rand::SeedableRng;
 use std::hint::black_box;
 
+const GROUP: &str = "ring push";
+
 /// Full rings, where each push goes on with what the last one left, and old records go as new ones
 /// come. The write goes round the part's end when its turn comes, seldom in a large ring.
-pub fn runs(meter: &mut Meter) -> Vec<(&'static str, Pair)> {
+pub fn runs(meter: &mut Meter) -> Vec<Row> {
     let long = 4096;
     let runs = [
         ("run of kind 01, capacity 4096", MOST, vec![ANSWER; long]),
@@ -25,17 +25,17 @@ pub fn runs(meter: &mut Meter) -> Vec<(&'static str, Pair)> {
     ];
     let rows = runs.into_iter().filter_map(|(what, capacity, kinds)| {
         let mut rng = SmallRng::seed_from_u64(1);
-        let records: Vec<Record> = kinds.iter().map(|&kind| record::any(&mut rng, kind)).collect();
-        let pair = meter
-            .pair("push", what, |side, bencher| going_on(side, bencher, capacity, &records))?;
-        Some((what, pair))
+        let records: Vec<Record> = kinds.iter().map(|&kind| any(&mut rng, kind)).collect();
+        let library = |bencher: &mut Bencher| going_on::<Library>(bencher, capacity, &records);
+        let plain = |bencher: &mut Bencher| going_on::<Plain>(bencher, capacity, &records);
+        Some(Row::new(what, meter.pair(GROUP, what, library, plain)?))
     });
     rows.collect()
 }
 
 /// Rings from which a push drops as many records as it says, and records to push. A full ring is
 /// filled to its last byte, so that the new record begins where the oldest did.
-pub fn cases(meter: &mut Meter) -> Vec<(&'static str, Pair)> {
+pub fn cases(meter: &mut Meter) -> Vec<Row> {
     let roomy = |start| Plan { start, ..Plan::whole(MOST) }.laid(&[ANSWER; 100]);
     let answers = |start| Plan { start, ..Plan::whole(585 * 7) }.laid(&[ANSWER; 585]);
     let trips = |start| Plan { start, ..Plan::whole(682 * 6) }.laid(&[TRIP; 682]);
@@ -48,37 +48,38 @@ pub fn cases(meter: &mut Meter) -> Vec<(&'static str, Pair)> {
         ("kind 02, drops two 03, round the end", trips(682 * 6 - 3), PULSE),
     ];
     let rows = cases.into_iter().filter_map(|(what, lent, kind)| {
-        let record = record::any(&mut SmallRng::seed_from_u64(1), kind);
-        let pair =
-            meter.pair("push", what, |side, bencher| same_ring(side, bencher, &lent, record))?;
-        Some((what, pair))
+        let record = any(&mut SmallRng::seed_from_u64(1), kind);
+        let library = |bencher: &mut Bencher| same_ring::<Library>(bencher, &lent, record);
+        let plain = |bencher: &mut Bencher| same_ring::<Plain>(bencher, &lent, record);
+        Some(Row::new(what, meter.pair(GROUP, what, library, plain)?))
     });
     rows.collect()
 }
 
 /// These records pushed in turn, on a ring that they have filled already.
-fn going_on(side: &'static Side, bencher: &mut Bencher, capacity: usize, records: &[Record]) {
+fn going_on<S: Side>(bencher: &mut Bencher, capacity: usize, records: &[Record]) {
     let Lent { mut buffer, at, mut ring } = Plan::whole(capacity).laid(&[]);
     for &record in records {
-        ring = side.push(&mut buffer, at, ring, record).ring;
+        S::push(&mut buffer, at, &mut ring, record).expect("a good ring");
     }
     let mut turn = records.iter().cycle();
     bencher.iter(|| {
         let record = *turn.next().expect("a cycle has no end");
-        ring = side.push(&mut buffer, at, ring, record).ring;
+        black_box(S::push(&mut buffer, at, &mut ring, record))
     });
 }
 
 /// The push of one record on one ring, again and again. Before each the ring is made whole, in
 /// place: the kind bytes of its two oldest records are put back, for they may be written over.
-fn same_ring(side: &'static Side, bencher: &mut Bencher, lent: &Lent, record: Record) {
+fn same_ring<S: Side>(bencher: &mut Bencher, lent: &Lent, record: Record) {
     let Lent { mut buffer, at, ring } = lent.clone();
     let oldest = at.offset + ring.start;
     let kind = buffer[oldest];
-    let length = plain::length(kind).expect("a known kind");
-    let second = at.offset + (ring.start + length) % ring.capacity;
+    let second = at.offset + (ring.start + bytes_of(kind)) % ring.capacity;
     bencher.iter(|| {
         (buffer[oldest], buffer[second]) = (kind, kind);
-        black_box(side.push(&mut buffer, at, black_box(ring), black_box(record)));
+        let mut ring = black_box(ring);
+        black_box(S::push(&mut buffer, at, &mut ring, black_box(record))).ok();
+        black_box(ring)
     });
 }

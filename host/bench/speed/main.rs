@@ -1,0 +1,29 @@
+//! The library against plain Rust in one run: `host/bench/run`.
+//!
+//! Both are called as a Rust program calls them, the library by its safe calls and the plain one,
+//! `independent::plain`, by its entry points, which are never inlined. No time is judged here, the
+//! tables are for people.
+
+mod alike;
+mod boxes;
+mod fair;
+mod frames;
+mod meter;
+mod ring;
+#[path = "../../tests/shared/seeded.rs"]
+mod seeded;
+mod table;
+
+use meter::Meter;
+
+/// The greatest capacity of a ring.
+const MOST: usize = 4096;
+
+fn main() {
+    fair::check();
+    let mut meter = Meter::new();
+    let mut tables = boxes::tables(&mut meter);
+    tables.extend(frames::tables(&mut meter));
+    tables.extend(ring::tables(&mut meter));
+    table::print(&tables);
+}
