@@ -5,8 +5,15 @@ use crate::meter::Pair;
 const LEGEND: &str = "
 Nanoseconds for one call: the least of three medians, the sides measured in turn. Ratio: plain /
 library, so that at 1.00 or more the library is no slower. Times real time: how many such calls fit
-in the time that one has, 100,000 ns for a tick and 86,806 ns for a byte. Mixed: the three kinds of
-record in a random order; mostly pulses: each 16th record is an answer.";
+in the time that one has, 100,000 ns for a tick or a readout, 86,806 ns for a byte or each byte of a
+frame. Mixed: the three kinds of record in a random order; mostly pulses: each 16th record is an
+answer.";
+
+/// The nanoseconds from one tick to the next: there are 10,000 a second.
+pub const TICK: f64 = 1e9 / 10_000.0;
+
+/// The nanoseconds from one byte to the next: a line of 115,200 baud has 11,520 a second.
+pub const BYTE: f64 = 1e9 / 11_520.0;
 
 pub struct Table {
     pub title: &'static str,
@@ -29,12 +36,22 @@ impl Table {
     pub fn new(title: &'static str, rows: Vec<Row>) -> Table {
         Table { title, further: &[], rows, note: String::new() }
     }
+
+    /// A table of calls that have a time to be done in.
+    pub fn timed(title: &'static str, rows: Vec<Row>) -> Table {
+        Table { further: &["times real time"], ..Table::new(title, rows) }
+    }
 }
 
 impl Row {
     /// A row with nothing behind the ratio.
     pub fn new(what: impl Into<String>, pair: Pair) -> Row {
         Row { what: what.into(), pair, further: Vec::new() }
+    }
+
+    /// A row of calls that have this time to be done in, in nanoseconds.
+    pub fn timed(what: impl Into<String>, pair: Pair, time: f64) -> Row {
+        Row { further: vec![whole(time / pair.library)], ..Row::new(what, pair) }
     }
 }
 
@@ -111,7 +128,7 @@ fn time(nanoseconds: f64) -> String {
 }
 
 /// A whole number, its thousands apart.
-pub fn whole(number: f64) -> String {
+fn whole(number: f64) -> String {
     let digits = format!("{number:.0}");
     let mut apart = String::new();
     for (index, digit) in digits.chars().enumerate() {

@@ -5,12 +5,11 @@ use super::rings::full;
 use super::scene::{frame, single, update, LIST};
 use super::{Calls, Scene};
 use crate::meter::Meter;
-use crate::table::Table;
+use crate::table::{self, Table};
 use independent::Command;
 
-/// 11,520 a second: a line of 115,200 baud, ten bits a byte.
-const BYTE: Kind =
-    Kind { name: "byte", titles: ["byte, in place", "byte, by value"], apart: 1e9 / 11_520.0 };
+const KIND: Kind =
+    Kind { name: "byte", titles: ["byte, in place", "byte, by value"], time: table::BYTE };
 
 /// Whole frames that are accepted, one Single for each module, and strays, which are answered 2.
 pub fn tables(meter: &mut Meter) -> Vec<Table> {
@@ -33,5 +32,5 @@ pub fn tables(meter: &mut Meter) -> Vec<Table> {
         let calls = Calls::Bytes(bytes);
         Case { what: what.to_owned(), scene, calls, answer }
     });
-    measured::tables(meter, &BYTE, cases.into())
+    measured::tables(meter, &KIND, cases.into())
 }

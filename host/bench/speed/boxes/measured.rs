@@ -3,7 +3,7 @@
 use super::{ByValue, Calls, InPlace, Plain, Scene, Side};
 use crate::fair;
 use crate::meter::{self, Meter, Pair};
-use crate::table::{whole, Row, Table};
+use crate::table::{Row, Table};
 use criterion::Bencher;
 use std::hint::black_box;
 
@@ -12,7 +12,7 @@ pub struct Kind {
     pub name: &'static str,
     pub titles: [&'static str; 2],
     /// The nanoseconds from one to the next in real time.
-    pub apart: f64,
+    pub time: f64,
 }
 
 /// Calls, and what the last of them answers.
@@ -30,16 +30,10 @@ pub fn tables(meter: &mut Meter, kind: &Kind, cases: Vec<Case>) -> Vec<Table> {
         assert_eq!(fair::end(&case.scene, &case.calls), Some(case.answer), "{}", case.what);
         let Some([in_place, by_value, plain]) = times(meter, kind, &case) else { continue };
         for (rows, library) in rows.iter_mut().zip([in_place, by_value]) {
-            let further = vec![whole(kind.apart / library)];
-            rows.push(Row { further, ..Row::new(&case.what, Pair { library, plain }) });
+            rows.push(Row::timed(&case.what, Pair { library, plain }, kind.time));
         }
     }
-    let tables = kind
-        .titles
-        .into_iter()
-        .zip(rows)
-        .map(|(title, rows)| Table { further: &["times real time"], ..Table::new(title, rows) });
-    tables.collect()
+    kind.titles.into_iter().zip(rows).map(|(title, rows)| Table::timed(title, rows)).collect()
 }
 
 /// The nanoseconds of one of the calls on every side, on the average of all.

@@ -4,7 +4,7 @@ use super::rings::full;
 use super::Scene;
 use crate::meter::Meter;
 use crate::ring::mixed;
-use crate::table::{Row, Table};
+use crate::table::{Row, Table, TICK};
 use crate::{alike, fair};
 use criterion::Bencher;
 use std::hint::black_box;
@@ -25,9 +25,9 @@ pub fn table(meter: &mut Meter) -> Table {
         fair::read_out(&scene);
         let library = |bencher: &mut Bencher| library(bencher, &scene);
         let plain = |bencher: &mut Bencher| plain(bencher, &scene);
-        Some(Row::new(&what, meter.pair("box readout", &what, library, plain)?))
+        Some(Row::timed(&what, meter.pair("box readout", &what, library, plain)?, TICK))
     });
-    Table::new("readout of a box", rows.collect())
+    Table::timed("readout of a box", rows.collect())
 }
 
 fn library(bencher: &mut Bencher, scene: &Scene) {

@@ -5,11 +5,10 @@ use super::rings::full;
 use super::scene::CYCLE;
 use super::{Calls, Scene};
 use crate::meter::Meter;
-use crate::table::Table;
+use crate::table::{self, Table};
 
-/// 10,000 a second.
-const TICK: Kind =
-    Kind { name: "tick", titles: ["tick, in place", "tick, by value"], apart: 100_000.0 };
+const KIND: Kind =
+    Kind { name: "tick", titles: ["tick, in place", "tick, by value"], time: table::TICK };
 
 /// A running list goes through one whole cycle of 250 ticks, of which eight release a pulse; on a full
 /// ring each of these drops what is oldest. The others have as many ticks.
@@ -28,5 +27,5 @@ pub fn tables(meter: &mut Meter) -> Vec<Table> {
         let calls = Calls::Ticks(CYCLE);
         Case { what, scene, calls, answer: 0 }
     });
-    measured::tables(meter, &TICK, cases.collect())
+    measured::tables(meter, &KIND, cases.collect())
 }

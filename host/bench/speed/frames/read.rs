@@ -2,7 +2,7 @@
 
 use super::{settings, ALL, INIT, SINGLE};
 use crate::meter::Meter;
-use crate::table::{Row, Table};
+use crate::table::{Row, Table, BYTE};
 use criterion::Bencher;
 use independent::plain::codec;
 use independent::{check, compose, Command};
@@ -20,7 +20,7 @@ pub fn table(meter: &mut Meter) -> Table {
         row(meter, "Single", &Command::Single(SINGLE), ALL, calls::read_single, codec::read_single),
     ];
     let rows = rows.into_iter().flatten().collect();
-    Table::new("frame read", rows)
+    Table::timed("frame read", rows)
 }
 
 fn row<L, P>(
@@ -34,7 +34,8 @@ fn row<L, P>(
     let frame = compose(command, count, check(command));
     let library = |bencher: &mut Bencher| again(bencher, &frame, count, &library);
     let plain = |bencher: &mut Bencher| again(bencher, &frame, count, &plain);
-    Some(Row::new(what, meter.pair("frame read", what, library, plain)?))
+    let time = BYTE * frame.len() as f64;
+    Some(Row::timed(what, meter.pair("frame read", what, library, plain)?, time))
 }
 
 fn again<T>(bencher: &mut Bencher, frame: &[u8], count: usize, read: impl Fn(&[u8], usize) -> T) {

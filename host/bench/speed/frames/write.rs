@@ -3,11 +3,15 @@
 use super::{settings, ALL, INIT, SINGLE};
 use crate::alike;
 use crate::meter::Meter;
-use crate::table::{Row, Table};
+use crate::table::{Row, Table, BYTE};
 use criterion::Bencher;
 use independent::plain::codec;
 use std::hint::black_box;
 use yarrowbell::calls;
+use yarrowbell::raw::Wrote;
+
+/// The bytes of the longest frame, an Update of 8 channels.
+const LONGEST: usize = 25;
 
 pub fn table(meter: &mut Meter) -> Table {
     let rows = [
@@ -18,7 +22,7 @@ pub fn table(meter: &mut Meter) -> Table {
         single(meter),
     ];
     let rows = rows.into_iter().flatten().collect();
-    Table::new("frame write", rows)
+    Table::timed("frame write", rows)
 }
 
 fn init(meter: &mut Meter) -> Option<Row> {
@@ -52,19 +56,20 @@ fn single(meter: &mut Meter) -> Option<Row> {
     )
 }
 
-fn row<L, P>(
+fn row<P>(
     meter: &mut Meter,
     what: &str,
-    library: impl Fn(&mut [u8]) -> L,
+    library: impl Fn(&mut [u8]) -> Wrote,
     plain: impl Fn(&mut [u8]) -> P,
 ) -> Option<Row> {
+    let time = BYTE * library(&mut [0; LONGEST]).used as f64;
     let library = |bencher: &mut Bencher| again(bencher, &library);
     let plain = |bencher: &mut Bencher| again(bencher, &plain);
-    Some(Row::new(what, meter.pair("frame write", what, library, plain)?))
+    Some(Row::timed(what, meter.pair("frame write", what, library, plain)?, time))
 }
 
 /// The output has room for the longest frame.
 fn again<T>(bencher: &mut Bencher, write: impl Fn(&mut [u8]) -> T) {
-    let mut out = [0; 25];
+    let mut out = [0; LONGEST];
     bencher.iter(|| black_box(write(black_box(&mut out))));
 }
