@@ -1,4 +1,4 @@
-// What Rust sees: every exported function, thin.
+// What Rust sees: the exported functions, thin; the two on a box lent by reference stand in `lent`.
 //
 // The layout that both sides rely on (x86-64 Linux, C's rules, numbers in the machine's order):
 //   &[u8], &mut [u8]   two arguments, a pointer and then a length of 8 bytes
