@@ -4,7 +4,6 @@
 //! `independent::plain`, by its entry points, which are never inlined. No time is judged here, the
 //! tables are for people.
 
-mod alike;
 mod boxes;
 mod fair;
 mod frames;

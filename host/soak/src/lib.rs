@@ -4,8 +4,9 @@
 //!
 //! `history` is that trial, `pairs` that of two boxes of which one has the tighter profile. Both
 //! are fixed by their seed. `met` counts what they came across: a trial that met nothing shows
-//! nothing.
+//! nothing. `alike` puts the independent machine's numbers into the library's records.
 
+pub mod alike;
 pub mod history;
 pub mod met;
 pub mod pairs;

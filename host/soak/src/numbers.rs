@@ -1,4 +1,4 @@
-//! The independent machine's records and the library's, number by number.
+//! The library's numbers in the records of the independent machine.
 
 use independent::plain::machine as plain;
 use independent::{Init, Part, Ring, Setting};
@@ -47,52 +47,4 @@ pub fn given(record: &raw::BoxRecord) -> plain::BoxRecord {
         partial: plain::PartialFrame { bytes: partial.bytes, len: partial.len, kept: partial.kept },
         ring: Ring { capacity: ring.capacity, start: ring.start, used: ring.used },
     }
-}
-
-/// The independent machine's record as the library would have it.
-pub fn expected(record: &plain::BoxRecord) -> raw::BoxRecord {
-    let plain::BoxRecord { profile, clock, hold_a, hold_b, state, run, partial, ring } = record;
-    let plain::Profile { currents, widths, charge, shortest, watchdog } = *profile;
-    let Init { n_factor, channel_stim, channel_lf, group_time, main_time } = run.list;
-    let setting = |one: Setting| raw::Setting {
-        mode: one.mode,
-        width: one.pulse_width,
-        current: one.pulse_current,
-    };
-    raw::BoxRecord {
-        profile: raw::Profile { currents, widths, charge, shortest, watchdog },
-        clock: *clock,
-        core: raw::Core {
-            holda: *hold_a,
-            holdb: *hold_b,
-            state: *state,
-            run: raw::Run {
-                list: raw::Init {
-                    factor: n_factor,
-                    stim: channel_stim,
-                    lf: channel_lf,
-                    group: group_time,
-                    main: main_time,
-                },
-                settings: run.settings.map(setting),
-                waits: run.waits,
-                waiting: run.waiting.map(setting),
-                position: run.position,
-                cycle: run.cycle,
-                watch: run.watch,
-            },
-        },
-        partial: raw::PartialFrame { bytes: partial.bytes, len: partial.len, kept: partial.kept },
-        ring: raw::Ring { capacity: ring.capacity, start: ring.start, used: ring.used },
-    }
-}
-
-pub fn said(said: &plain::Said) -> raw::Said {
-    let pulse = |one: &plain::Pulse| raw::Released {
-        clock: one.clock,
-        channel: one.channel,
-        width: one.width,
-        current: one.current,
-    };
-    raw::Said { answer: said.answer, reply: said.reply, a: pulse(&said.a), b: pulse(&said.b) }
 }

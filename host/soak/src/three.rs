@@ -1,7 +1,7 @@
 //! The three boxes that are called alike.
 
 use crate::failure::{same, same_bytes};
-use crate::numbers;
+use crate::{alike, numbers};
 use independent::plain::machine as plain;
 use rand::rngs::SmallRng;
 use rand::RngCore;
@@ -31,7 +31,7 @@ pub struct Three {
 /// Makes a box by the library and by the independent machine. Hands back the answer and the record.
 pub fn make(profile: Profile, capacity: usize) -> Result<Made, String> {
     let expected = match plain::BoxRecord::new(numbers::profile(profile), capacity) {
-        Ok(record) => Made { answer: 0, made: numbers::expected(&record) },
+        Ok(record) => Made { answer: 0, made: alike::record(&record) },
         Err(answer) => Made { answer, made: BoxRecord::default() },
     };
     let made = calls::make(profile, capacity);
@@ -70,7 +70,7 @@ impl Three {
         };
         same(&in_place, &expected, || told("what the box in place says"))?;
         same(&by_value, &expected, || told("what the box by value says"))?;
-        let record = numbers::expected(&self.plain);
+        let record = alike::record(&self.plain);
         same(&*self.in_place, &record, || told("the box in place"))?;
         same(&self.by_value, &record, || told("the box by value"))?;
         let [in_place, by_value, plain] = &self.buffers;
@@ -85,7 +85,7 @@ impl Three {
         let called = calls::byte(self.by_value, by_value, self.at, n);
         self.by_value = called.next;
         let expected = self.plain.byte(plain, numbers::part(self.at), n);
-        [said, called.said, numbers::said(&expected)]
+        [said, called.said, alike::said(expected)]
     }
 
     fn tick(&mut self) -> [Said; 3] {
@@ -94,7 +94,7 @@ impl Three {
         let called = calls::tick(self.by_value, by_value, self.at);
         self.by_value = called.next;
         let expected = self.plain.tick(plain, numbers::part(self.at));
-        [said, called.said, numbers::said(&expected)]
+        [said, called.said, alike::said(expected)]
     }
 
     /// A readout has one export. It is told as an answer alone.

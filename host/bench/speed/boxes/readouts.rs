@@ -2,11 +2,12 @@
 
 use super::rings::full;
 use super::Scene;
+use crate::fair;
 use crate::meter::Meter;
 use crate::ring::mixed;
 use crate::table::{Row, Table, TICK};
-use crate::{alike, fair};
 use criterion::Bencher;
+use soak::alike;
 use std::hint::black_box;
 use yarrowbell::calls;
 

@@ -1,9 +1,9 @@
 //! The sides that are compared: the library's box changed in place, its box handed over and handed
 //! back, and the plain box, which is changed in place.
 
-use crate::alike;
 use independent::plain::machine::{self, BoxRecord};
 use independent::Part;
+use soak::alike;
 use yarrowbell::{calls, raw};
 
 pub trait Side {

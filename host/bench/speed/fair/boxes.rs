@@ -1,8 +1,8 @@
 //! Calls on a box, played on every side.
 
 use super::same::{same, same_all};
-use crate::alike;
 use crate::boxes::{ByValue, Calls, InPlace, Plain, Scene, Side};
+use soak::alike;
 use yarrowbell::{calls, raw};
 
 /// How the calls leave the box. Stops at the first difference.

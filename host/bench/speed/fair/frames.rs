@@ -2,12 +2,12 @@
 
 use super::random;
 use super::same::{same, same_all};
-use crate::alike;
 use crate::seeded::seeded;
 use independent::plain::codec;
 use independent::{Command, Setting};
 use rand::rngs::SmallRng;
 use rand::Rng;
+use soak::alike;
 use yarrowbell::{calls, raw};
 
 pub fn check() {

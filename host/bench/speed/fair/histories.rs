@@ -5,11 +5,12 @@ use super::random;
 use super::same::same;
 use crate::boxes::{Calls, Scene};
 use crate::seeded::seeded;
-use crate::{alike, MOST};
+use crate::MOST;
 use independent::plain::machine::BoxRecord;
 use independent::Part;
 use rand::rngs::SmallRng;
 use rand::Rng;
+use soak::alike;
 use yarrowbell::calls;
 
 pub fn check() {

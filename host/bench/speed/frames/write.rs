@@ -1,11 +1,11 @@
 //! Frames written.
 
 use super::{settings, ALL, INIT, SINGLE};
-use crate::alike;
 use crate::meter::Meter;
 use crate::table::{Row, Table, BYTE};
 use criterion::Bencher;
 use independent::plain::codec;
+use soak::alike;
 use std::hint::black_box;
 use yarrowbell::calls;
 use yarrowbell::raw::Wrote;

@@ -1,8 +1,8 @@
 //! The two sides that are compared: the library's calls, and those of the plain ring.
 
-use crate::alike;
 use independent::plain::ring;
 use independent::{Part, Record, Ring};
+use soak::alike;
 use yarrowbell::calls;
 
 pub trait Side {

@@ -1,4 +1,4 @@
-//! The plain side's numbers in the records of the library.
+//! The independent machine's numbers in the records of the library.
 
 use independent::plain::machine::{BoxRecord, PartialFrame, Profile, Pulse, Run, Said};
 use independent::{Init, Part, Ring, Setting, Single};
