@@ -3,7 +3,7 @@
 use crate::raw::{BoxRecord, Part, Profile, Said};
 use crate::refusal::{About, Refusal};
 use crate::told::Told;
-use crate::{calls, Answer};
+use crate::{calls, Answer, State};
 
 /// A box with its ring. It owns the ring's memory, so that the two cannot come apart.
 #[derive(Clone, Debug)]
@@ -61,6 +61,14 @@ impl Guard {
         let mut out = vec![0; self.record.ring.used];
         self.readout(&mut out)?;
         Ok(out)
+    }
+
+    pub fn clock(&self) -> u32 {
+        self.record.clock
+    }
+
+    pub fn state(&self) -> State {
+        State::known(self.record.core.state)
     }
 
     /// All that the box keeps, but for its ring's bytes.

@@ -14,12 +14,14 @@ mod guard;
 mod profile;
 pub mod raw;
 mod refusal;
+mod state;
 mod told;
 
 pub use answer::Answer;
 pub use frames::{read, reply, write, Command, Frame};
 pub use guard::Guard;
-pub use profile::OutOfRange;
+pub use profile::{Looser, OutOfRange};
 pub use raw::{Init, Profile, Released, Setting, Single};
 pub use refusal::{About, Refusal};
+pub use state::State;
 pub use told::Told;

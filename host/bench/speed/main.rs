@@ -1,4 +1,4 @@
-//! The library against plain Rust in one run: `host/bench/run`.
+//! The library against plain Rust in one run: `yarrowbell bench`.
 //!
 //! Both are called as a Rust program calls them, the library by its safe calls and the plain one,
 //! `independent::plain`, by its entry points, which are never inlined. No time is judged here, the

@@ -4,12 +4,14 @@
 //!
 //! `history` is that trial, `pairs` that of two boxes of which one has the tighter profile. Both
 //! are fixed by their seed. `met` counts what they came across: a trial that met nothing shows
-//! nothing. `alike` puts the independent machine's numbers into the library's records.
+//! nothing. `alike` puts the independent machine's numbers into the library's records. `sessions` has
+//! histories of bytes and ticks alone, for programs that play them.
 
 pub mod alike;
 pub mod history;
 pub mod met;
 pub mod pairs;
+pub mod sessions;
 
 mod act;
 mod damage;

@@ -11,11 +11,9 @@ use crate::pick::any;
 use crate::{act, numbers, profiles};
 use rand::rngs::SmallRng;
 use rand::{Rng, SeedableRng};
-use yarrowbell::{Guard, Profile, Told};
+use yarrowbell::{Guard, Profile, State, Told};
 
 const TRIAL: &str = "pair";
-
-const TRIPPED: u8 = 2;
 
 /// Runs the pair of this seed.
 pub fn run(seed: u64, met: &mut Met) -> Result<(), Failure> {
@@ -88,5 +86,5 @@ impl Pair<'_> {
 }
 
 fn tripped(guard: &Guard) -> bool {
-    guard.record().core.state == TRIPPED
+    guard.state() == State::Tripped
 }

@@ -5,14 +5,6 @@ use rand::rngs::SmallRng;
 use rand::Rng;
 use yarrowbell::Profile;
 
-pub const LOOSEST: Profile = Profile {
-    currents: [127; 8],
-    widths: [500; 8],
-    charge: 63_500,
-    shortest: 30,
-    watchdog: 600_000,
-};
-
 const TIGHTEST: Profile =
     Profile { currents: [0; 8], widths: [0; 8], charge: 0, shortest: 10_235, watchdog: 1 };
 
@@ -20,8 +12,8 @@ const TIGHTEST: Profile =
 pub fn good(rng: &mut SmallRng) -> Profile {
     match rng.gen_range(0..20) {
         0 => TIGHTEST,
-        1 | 2 => LOOSEST,
-        3 | 4 => Profile { watchdog: watchdog(rng), ..LOOSEST },
+        1 | 2 => Profile::LOOSEST,
+        3 | 4 => Profile { watchdog: watchdog(rng), ..Profile::LOOSEST },
         5 => Profile {
             currents: std::array::from_fn(|_| rng.gen_range(0..=127)),
             widths: std::array::from_fn(|_| rng.gen_range(0..=500)),

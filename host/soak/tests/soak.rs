@@ -2,7 +2,6 @@
 
 use soak::met::Met;
 use soak::{history, pairs};
-use std::process::Command;
 
 /// How often each thing must have been met at least.
 const OFTEN: u64 = 40;
@@ -33,14 +32,4 @@ fn profiles_that_are_nowhere_looser() {
         pairs::run(seed, &mut met).unwrap_or_else(|failure| panic!("{failure}"));
     }
     all_met(met.of_pairs(), 1_000);
-}
-
-#[test]
-fn the_program() {
-    let soak =
-        Command::new(env!("CARGO_BIN_EXE_soak")).args(["--calls", "5000", "--seed", "3"]).output();
-    let output = soak.expect("the program runs");
-    let text = String::from_utf8(output.stdout).expect("it prints text");
-    assert!(output.status.success(), "{text}");
-    assert!(text.trim_end().ends_with("calls, all boxes agree"), "{text}");
 }

@@ -1,0 +1,84 @@
+//! `yarrowbell lesson`
+
+mod beside;
+mod fields;
+mod limits;
+mod page;
+mod ring;
+mod wrong;
+
+use crate::course::Event;
+use crate::failure::{Failure, Out};
+use crate::files::Planned;
+use crate::picture::{self, Panel};
+use clap::{Args, Subcommand};
+use std::path::PathBuf;
+
+/// Show a mistake of the classroom: a unit that makes it beside the proved one
+///
+/// Each lesson prints the wrong code that it runs, what came of it beside the proved unit on the
+/// same input, the rule of document 01 and what is proved.
+#[derive(Args)]
+#[command(after_help = "\
+Example:
+  yarrowbell lesson ring")]
+pub struct Lesson {
+    #[command(subcommand)]
+    of: Of,
+}
+
+#[derive(Subcommand)]
+enum Of {
+    /// A record past the ring's end changes the command beside it
+    #[command(after_help = "\
+Example:
+  yarrowbell lesson ring")]
+    Ring(Words),
+    /// A trace read by guessed fields shows 41,200 mA, which are the clock
+    #[command(after_help = "\
+Example:
+  yarrowbell lesson fields")]
+    Fields(Words),
+    /// A strict unit keeps its old settings after answer 9, and pulses where the lax one is silent
+    #[command(after_help = "\
+Example:
+  yarrowbell lesson limits")]
+    Limits(Words),
+}
+
+#[derive(Args)]
+struct Words {
+    /// Draw the wrong one above the proved one
+    #[arg(long, value_name = "OUT.svg")]
+    plot: Option<PathBuf>,
+}
+
+/// What a lesson draws, with titles: the wrong one, and the proved one; and the clock at the end.
+struct Drawn {
+    wrong: (&'static str, Vec<Event>),
+    proved: (&'static str, Vec<Event>),
+    end: u32,
+}
+
+impl Lesson {
+    pub fn run(self, out: Out) -> Result<(), Failure> {
+        let (Of::Ring(words) | Of::Fields(words) | Of::Limits(words)) = &self.of;
+        let plot = words.plot.as_deref().map(Planned::new).transpose()?;
+        let drawn = match self.of {
+            Of::Ring(_) => ring::teach(out)?,
+            Of::Fields(_) => fields::teach(out)?,
+            Of::Limits(_) => limits::teach(out)?,
+        };
+        if let Some(plot) = plot {
+            plot.write(drawn.svg().as_bytes())?;
+        }
+        Ok(())
+    }
+}
+
+impl Drawn {
+    fn svg(&self) -> String {
+        let panels = [&self.wrong, &self.proved].map(|(title, events)| Panel { title, events });
+        picture::svg(&panels, self.end)
+    }
+}

@@ -1,0 +1,44 @@
+//! The program `yarrowbell`: what a bench engineer and a teacher use, over the proved library.
+//!
+//! Exit status: 0 done; 1 a soak that found a difference; 2 bad input, of which nothing was done; 3
+//! what it had to say could not be printed. A reader who has gone, as behind a pipe, is no failure.
+
+mod against;
+mod bench;
+mod channels;
+mod course;
+mod demo;
+mod failure;
+mod field;
+mod files;
+mod hex;
+mod lesson;
+mod number;
+mod picture;
+mod play;
+mod profile;
+mod progress;
+mod read;
+mod replay;
+mod session;
+mod setting;
+mod soaking;
+mod story;
+mod subcommands;
+mod trace;
+mod unit;
+mod words;
+mod write;
+
+use clap::Parser;
+use failure::Failure;
+use std::io::{self, BufWriter, Write};
+use std::process::ExitCode;
+
+fn main() -> ExitCode {
+    let arguments = subcommands::Arguments::parse();
+    let mut out = BufWriter::new(io::stdout().lock());
+    let ran = subcommands::run(arguments, &mut out);
+    ran.and_then(|status| out.flush().map(|()| status).map_err(Failure::from))
+        .unwrap_or_else(Failure::told)
+}

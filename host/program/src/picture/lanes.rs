@@ -1,0 +1,99 @@
+//! A lane for each channel, with its pulses as bars.
+
+use super::axis::{Time, LEFT, RIGHT};
+use super::ink::{self, filled, Area, Drawn};
+use super::scale::Scale;
+use super::thinning::tallest;
+use super::tint::{self, TINTS};
+use crate::course::{Event, Pulse, What};
+use plotters::prelude::{FontStyle, Polygon, Text};
+use plotters::style::text_anchor::{HPos, Pos, VPos};
+use plotters::style::Color;
+
+pub const HEIGHT: u32 = CHANNELS as u32 * (BAR + ABOVE + 1) as u32;
+
+const CHANNELS: u8 = 8;
+
+/// The height of a full bar, the space above it, and how broad a bar is at most.
+const BAR: i32 = 38;
+const ABOVE: i32 = 6;
+const BROADEST: i32 = 6;
+
+/// The pulses of each channel that are drawn, by their columns.
+pub struct Lanes {
+    lanes: Vec<Vec<(i32, Pulse)>>,
+    pub left_out: bool,
+}
+
+impl Lanes {
+    pub fn of(events: &[Event], time: &Time) -> Lanes {
+        let mut left_out = false;
+        let lane = |channel| {
+            let pulses = events.iter().filter_map(|event| match event.what {
+                What::Pulse(pulse) if pulse.channel == channel => {
+                    Some((time.column(event.clock), pulse))
+                }
+                _ => None,
+            });
+            let kept = tallest(pulses.clone());
+            left_out |= kept.len() < pulses.count();
+            kept
+        };
+        Lanes { lanes: (1..=CHANNELS).map(lane).collect(), left_out }
+    }
+
+    pub fn draw(&self, area: &Area, breadth: i32) -> Drawn {
+        let areas = area.split_evenly((CHANNELS.into(), 1));
+        for ((lane, bars), channel) in areas.iter().zip(&self.lanes).zip(1..) {
+            let highest = bars.iter().map(|(_, pulse)| pulse.current).max();
+            let scale = Scale::for_current(highest.unwrap_or(0));
+            draw_label(lane, channel, &scale)?;
+            draw_bars(lane, bars, breadth, &scale)?;
+            lane.draw(&filled((LEFT, ABOVE + BAR), (RIGHT - LEFT, 1), ink::RULE))?;
+        }
+        Ok(())
+    }
+}
+
+/// How broad all bars are drawn, so that neighbours of a lane stay apart where they can.
+pub fn breadth(all: &[Lanes]) -> i32 {
+    let lanes = all.iter().flat_map(|panel| &panel.lanes);
+    let steps = lanes.flat_map(|bars| bars.windows(2).map(|two| two[1].0 - two[0].0));
+    steps.min().map_or(BROADEST, |least| (least - 1).clamp(1, BROADEST))
+}
+
+/// The channel, and what the lane's full height stands for.
+fn draw_label(lane: &Area, channel: u8, scale: &Scale) -> Drawn {
+    let name = ink::text(ink::PLAIN, HPos::Left, VPos::Center);
+    lane.draw(&Text::new(format!("channel {channel}"), (14, ABOVE + BAR / 2), name))?;
+    let style = if scale.is_wider() { FontStyle::Bold } else { FontStyle::Normal };
+    let full = ink::font(ink::SMALL, style).color(&ink::BLACK);
+    let full = full.pos(Pos::new(HPos::Right, VPos::Top));
+    let none = ink::text(ink::SMALL, HPos::Right, VPos::Bottom);
+    lane.draw(&filled((LEFT - 1, ABOVE), (1, BAR), ink::GREY))?;
+    for end in [ABOVE, ABOVE + BAR] {
+        lane.draw(&filled((LEFT - 5, end), (5, 1), ink::GREY))?;
+    }
+    let written = format!("{} mA", ink::thousands(scale.full));
+    lane.draw(&Text::new(written, (LEFT - 8, ABOVE), full))?;
+    lane.draw(&Text::new("0", (LEFT - 8, ABOVE + BAR + 2), none))
+}
+
+/// The bars of one tint are one polygon, a comb that stands on the lane's ground: a box for each
+/// would make the picture of a long session three times as large.
+fn draw_bars(lane: &Area, bars: &[(i32, Pulse)], breadth: i32, scale: &Scale) -> Drawn {
+    let ground = ABOVE + BAR;
+    for (place, ink) in TINTS.iter().enumerate() {
+        let teeth = bars.iter().filter(|(_, pulse)| tint::of(pulse.width) == place);
+        let comb: Vec<(i32, i32)> = teeth
+            .flat_map(|(x, pulse)| {
+                let top = ground - scale.height(pulse.current, BAR);
+                [(*x, ground), (*x, top), (x + breadth, top), (x + breadth, ground)]
+            })
+            .collect();
+        if !comb.is_empty() {
+            lane.draw(&Polygon::new(comb, ink.filled()))?;
+        }
+    }
+    Ok(())
+}

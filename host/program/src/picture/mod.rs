@@ -1,0 +1,57 @@
+//! Courses as a picture in SVG.
+
+mod axis;
+mod bands;
+mod commands;
+mod ink;
+mod labels;
+mod lanes;
+mod legend;
+mod panel;
+mod scale;
+mod thinning;
+mod tint;
+mod trips;
+
+use crate::course::Event;
+use axis::Time;
+use ink::{Area, Drawn};
+use lanes::Lanes;
+use plotters::prelude::{IntoDrawingArea, SVGBackend, WHITE};
+
+const WIDTH: u32 = 1200;
+const TOP: u32 = 12;
+
+/// What one unit did.
+pub struct Panel<'a> {
+    pub title: &'a str,
+    pub events: &'a [Event],
+}
+
+/// The panels one above the other, from clock 0 to the end, which is the same for all.
+pub fn svg(panels: &[Panel], end: u32) -> String {
+    let height = TOP + panels.len() as u32 * panel::HEIGHT + legend::HEIGHT;
+    let mut text = String::new();
+    let area = SVGBackend::with_string(&mut text, (WIDTH, height)).into_drawing_area();
+    draw(&area, panels, end).expect("a string takes all that is drawn");
+    drop(area);
+    text
+}
+
+fn draw(area: &Area, panels: &[Panel], end: u32) -> Drawn {
+    area.fill(&WHITE)?;
+    let time = Time::until(end);
+    let lanes: Vec<Lanes> = panels.iter().map(|panel| Lanes::of(panel.events, &time)).collect();
+    let breadth = lanes::breadth(&lanes);
+    let (_, mut rest) = area.split_vertically(TOP);
+    for (panel, lanes) in panels.iter().zip(&lanes) {
+        let (top, below) = rest.split_vertically(panel::HEIGHT);
+        panel::draw(&top, panel, lanes, breadth, &time)?;
+        rest = below;
+    }
+    legend::draw(&rest)?;
+    area.present()
+}
+
+#[cfg(test)]
+mod tests;

@@ -1,0 +1,42 @@
+//! What comes of a frame: its check, what the library says of it, and the reply.
+
+use super::check;
+use super::given::{Given, Value};
+use crate::{hex, words};
+use yarrowbell::{reply, Answer, Frame};
+
+pub fn of(
+    given: &Given,
+    values: &[Value],
+    count: usize,
+    read: &Result<Frame, Answer>,
+) -> Vec<String> {
+    let mut lines = Vec::new();
+    if given.is_whole() {
+        lines.push(check::worked_out(values, given.modulus()));
+    } else if given.is_frame() {
+        let (own, length) = (given.own, given.length());
+        lines.push(format!(
+            "not whole: {own} of {length} bytes are there, too few to work out the check"
+        ));
+    }
+    let listable = (1..=8).contains(&count);
+    if !listable {
+        lines.push(format!("--channels {count} is not good: a list has 1 to 8 channels"));
+    }
+    let ident = given.bytes[0] >> 5 & 3;
+    let (used, answer, reply) = match read {
+        Ok(frame) => (frame.used, "answer 0: good frame".to_owned(), reply(ident, Answer::Done)),
+        Err(answer) => {
+            // A command is decided by a whole frame, read for a number that can be listed.
+            let decided = listable && matches!(answer, Answer::WrongCheck | Answer::NotGood);
+            (0, words::answer(*answer), if decided { reply(ident, *answer) } else { 0 })
+        }
+    };
+    lines.push(format!("bytes used {used}"));
+    if !given.behind().is_empty() {
+        lines.push(format!("bytes behind, not used: {}", hex::spelt(given.behind())));
+    }
+    lines.push(format!("{answer}, reply {}", hex::spelt(&[reply])));
+    lines
+}

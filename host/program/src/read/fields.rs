@@ -1,0 +1,30 @@
+//! The fields of a frame in lines, those of each listed channel together.
+
+use super::given::Value;
+use super::rows;
+
+pub fn of(values: &[Value]) -> Vec<String> {
+    let mut lines = Vec::new();
+    let mut entry = 0;
+    for value in values {
+        if value.entry != entry {
+            entry = value.entry;
+            let which = if entry == 1 { "lowest" } else { "next" };
+            lines.push(format!("entry {entry}, the {which} listed channel"));
+        }
+        let indent = if entry == 0 { "" } else { "  " };
+        lines.push(format!("{:15}{}", format!("{indent}{}", value.field.name()), told(value)));
+    }
+    lines
+}
+
+fn told(value: &Value) -> String {
+    let Value { field, number, missing, .. } = value;
+    if *missing != 0 {
+        return format!("    -: {} missing", rows::numbered(missing - 1, 0));
+    }
+    let meaning = field.meaning(*number);
+    let fault =
+        field.broken(*number).map_or_else(String::new, |rule| format!(", not good: {rule}"));
+    format!("{number:5}{meaning}{fault}")
+}

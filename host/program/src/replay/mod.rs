@@ -1,0 +1,155 @@
+//! `yarrowbell replay`
+
+mod sheet;
+
+use crate::against::Against;
+use crate::course::Courses;
+use crate::failure::{BadInput, Failure, Out};
+use crate::files::Planned;
+use crate::picture::{self, Panel};
+use crate::play::play;
+use crate::progress::Progress;
+use crate::session::Session;
+use crate::story::Story;
+use crate::unit::Unit;
+use crate::{hex, number, profile};
+use clap::Args;
+use sheet::Sheet;
+use std::io::{self, IsTerminal};
+use std::path::PathBuf;
+use yarrowbell::{Guard, Profile};
+
+/// The names of two units beside each other.
+const NAMES: [&str; 2] = ["the first", "the second"];
+
+/// Play a session file on the proved unit and tell what it did
+///
+/// A session file is text. A line is a clock, in tenths of a millisecond, and the bytes in hex that
+/// are sent at that clock; clocks do not fall. The last line may be a clock and the word end: the
+/// unit ticks on until then. What follows # is a comment.
+#[derive(Args)]
+#[command(after_help = "\
+A profile is a TOML file with any of these lines, the others being as here:
+  currents = [127, 127, 127, 127, 127, 127, 127, 127]   # mA, 0 to 127, channels 1 to 8
+  widths = [500, 500, 500, 500, 500, 500, 500, 500]     # µs, 0 to 500
+  charge = 63500                                        # nC, 0 to 63500
+  shortest_t1 = 30                                      # tenths of a ms, 30 to 10235
+  watchdog = 600000                                     # tenths of a ms, 1 to 600000
+
+Example of a session, document 01's case 12:
+  0 88 01 20 00 30 12         # Init of channels 1 and 3
+  5 BB 01 48 28 22 2C 1E      # Update of their settings
+  300 end
+
+Example:
+  yarrowbell replay case12.session --profile lax.toml --against strict.toml --plot case12.svg")]
+pub struct Replay {
+    /// The session file
+    #[arg(value_name = "SESSION")]
+    session: PathBuf,
+
+    /// The profile of the unit; without it the loosest one
+    #[arg(long, value_name = "P.toml")]
+    profile: Option<PathBuf>,
+
+    /// The capacity of its trace ring in bytes, 16 to 4096
+    #[arg(long, value_name = "N", default_value_t = 4096)]
+    #[arg(value_parser = number::size, allow_negative_numbers = true)]
+    capacity: usize,
+
+    /// A second unit of this profile, played beside the first
+    #[arg(long, value_name = "Q.toml", conflicts_with = "calls")]
+    against: Option<PathBuf>,
+
+    /// Print a CSV line for each call instead of the story
+    #[arg(long)]
+    calls: bool,
+
+    /// Print the ring's bytes in hex in a last line, for each unit
+    #[arg(long)]
+    readout: bool,
+
+    /// Draw what the unit did, or both units did
+    #[arg(long, value_name = "OUT.svg")]
+    plot: Option<PathBuf>,
+
+    /// End at this clock instead of where the session ends
+    #[arg(long, value_name = "CLOCK")]
+    #[arg(value_parser = number::clock, allow_negative_numbers = true)]
+    until: Option<u32>,
+}
+
+impl Replay {
+    pub fn run(self, out: Out) -> Result<(), Failure> {
+        let session = Session::of_file(&self.session)?;
+        let session = match self.until {
+            Some(clock) => session.until(clock),
+            None => session,
+        };
+        let first = profile::of_file(self.profile.as_deref())?;
+        let second =
+            self.against.as_deref().map(|file| profile::of_file(Some(file))).transpose()?;
+        let profiles: Vec<Profile> = [first].into_iter().chain(second).collect();
+        let guards = profiles.iter().map(|profile| self.guard(*profile));
+        let mut guards = guards.collect::<Result<Vec<Guard>, BadInput>>()?;
+        let plot = self.plot.as_deref().map(Planned::new).transpose()?;
+        let names: &[&str] = if guards.len() == 1 { &["unit"] } else { &NAMES };
+
+        let mut courses = Courses::of(guards.len());
+        let mut keep = |step| {
+            if plot.is_some() {
+                courses.add(step);
+            }
+        };
+        let mut units: Vec<&mut dyn Unit> = Vec::new();
+        for guard in &mut guards {
+            units.push(guard);
+        }
+        let progress = if self.calls && io::stdout().is_terminal() {
+            Progress::hidden()
+        } else {
+            Progress::of_calls(session.number_of_calls())
+        };
+        if self.calls {
+            let mut sheet = Sheet::begin(&mut *out)?;
+            play(&session, &mut units, &progress, |step| {
+                sheet.step(&step)?;
+                keep(step);
+                Ok(())
+            })?;
+            sheet.end()?;
+        } else {
+            let mut story = Story::begin(names, out)?;
+            let mut against = Against::default();
+            play(&session, &mut units, &progress, |step| {
+                story.step(&step, &progress, out)?;
+                against.step(&step);
+                keep(step);
+                Ok(())
+            })?;
+            story.end(&guards, out)?;
+            if let Some(second) = &second {
+                against.tell(NAMES, &first, second, out)?;
+            }
+        }
+        drop(progress);
+        if self.readout {
+            for guard in &guards {
+                let trace = guard.trace().expect("its own ring is ready");
+                writeln!(out, "{}", hex::spelt(&trace))?;
+            }
+        }
+        if let Some(plot) = plot {
+            let panels = names.iter().zip(&courses.0);
+            let panels: Vec<Panel> =
+                panels.map(|(title, events)| Panel { title, events }).collect();
+            plot.write(picture::svg(&panels, session.end()).as_bytes())?;
+        }
+        Ok(())
+    }
+
+    fn guard(&self, profile: Profile) -> Result<Guard, BadInput> {
+        Guard::new(profile, self.capacity)
+            .map_err(|refusal| BadInput::argument("--capacity", refusal))
+    }
+}

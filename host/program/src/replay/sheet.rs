@@ -1,0 +1,74 @@
+//! The calls of a session as lines of CSV.
+
+use crate::failure::Failure;
+use crate::play::Step;
+use crate::unit::Call;
+use serde::{Serialize, Serializer};
+use std::io;
+
+const HEAD: [&str; 8] =
+    ["clock", "call", "byte", "answer", "reply", "channel", "width_us", "current_ma"];
+
+#[derive(Serialize)]
+struct Line {
+    clock: u32,
+    call: &'static str,
+    byte: Option<Hex>,
+    answer: u8,
+    reply: Option<Hex>,
+    channel: Option<u8>,
+    width_us: Option<u16>,
+    current_ma: Option<u8>,
+}
+
+/// A byte in two upper-case hex digits.
+struct Hex(u8);
+
+impl Serialize for Hex {
+    fn serialize<S: Serializer>(&self, serializer: S) -> Result<S::Ok, S::Error> {
+        serializer.collect_str(&format_args!("{:02X}", self.0))
+    }
+}
+
+pub struct Sheet<W: io::Write>(csv::Writer<W>);
+
+impl<W: io::Write> Sheet<W> {
+    pub fn begin(out: W) -> Result<Sheet<W>, Failure> {
+        let mut lines = csv::WriterBuilder::new().has_headers(false).from_writer(out);
+        lines.write_record(HEAD).map_err(cannot_print)?;
+        Ok(Sheet(lines))
+    }
+
+    /// The line of the first unit's call. No call releases two pulses: a slot of module A is a
+    /// multiple of 5, one of B is 1 more, and t2 is a multiple of 5.
+    pub fn step(&mut self, step: &Step) -> Result<(), Failure> {
+        let told = step.of[0].told;
+        let (call, byte) = match step.call {
+            Call::Byte(byte) => ("byte", Some(Hex(byte))),
+            Call::Tick => ("tick", None),
+        };
+        let pulse = told.released().next();
+        let line = Line {
+            clock: step.clock,
+            call,
+            byte,
+            answer: told.answer.number(),
+            reply: told.reply.map(Hex),
+            channel: pulse.map(|pulse| pulse.channel),
+            width_us: pulse.map(|pulse| pulse.width),
+            current_ma: pulse.map(|pulse| pulse.current),
+        };
+        self.0.serialize(line).map_err(cannot_print)
+    }
+
+    pub fn end(mut self) -> Result<(), Failure> {
+        Ok(self.0.flush()?)
+    }
+}
+
+fn cannot_print(error: csv::Error) -> Failure {
+    Failure::Print(match error.into_kind() {
+        csv::ErrorKind::Io(error) => error,
+        other => io::Error::other(format!("{other:?}")),
+    })
+}

@@ -1,0 +1,54 @@
+//! `yarrowbell soak`
+
+use crate::failure::{Failure, Out};
+use crate::number;
+use crate::progress::Progress;
+use clap::Args;
+use soak::met::Met;
+use soak::{history, pairs};
+
+/// Call the box with random histories and compare every call with an independent machine
+///
+/// Prints what the histories came across, and stops at the first difference with exit status 1.
+#[derive(Args)]
+#[command(after_help = "\
+Example:
+  yarrowbell soak --calls 1000000")]
+pub struct Soak {
+    /// How many calls to make at least
+    #[arg(long, value_name = "N", default_value_t = 20_000_000)]
+    #[arg(value_parser = number::count, allow_negative_numbers = true)]
+    calls: u64,
+
+    /// The first seed; the next histories have the next seeds. A failing one repeats its history
+    #[arg(long, value_name = "SEED", default_value_t = 1)]
+    #[arg(value_parser = number::count, allow_negative_numbers = true)]
+    seed: u64,
+}
+
+impl Soak {
+    pub fn run(self, out: Out) -> Result<(), Failure> {
+        let mut met = Met::default();
+        let ran = self.soak(&mut met);
+        for (what, count) in met.of_histories().into_iter().chain(met.of_pairs()) {
+            writeln!(out, "{count:>12}  {what}")?;
+        }
+        ran?;
+        writeln!(out, "{:>12}  calls, all boxes agree", met.calls + met.pair_calls)?;
+        Ok(())
+    }
+
+    fn soak(&self, met: &mut Met) -> Result<(), soak::Failure> {
+        let progress = Progress::of_calls(self.calls);
+        for seed in self.seed.. {
+            history::run(seed, met)?;
+            pairs::run(seed, met)?;
+            let done = met.calls + met.pair_calls;
+            progress.calls(done.min(self.calls));
+            if done >= self.calls {
+                break;
+            }
+        }
+        Ok(())
+    }
+}

@@ -1,0 +1,128 @@
+//! What units did in a session, in lines: the commands with their answers, pulses and trips.
+
+use crate::course::{Event, Pulse, What};
+use crate::failure::{Failure, Out};
+use crate::play::{Done, Step};
+use crate::progress::Progress;
+use crate::{hex, words};
+use yarrowbell::Guard;
+
+/// How wide a column is at least, without the space behind it.
+const COLUMN: usize = 42;
+
+/// How much is printed at once: the bar of a long run is taken away for it, and put back.
+const AT_ONCE: usize = 4096;
+
+/// The units by their names, what they have done so far, and what is yet to be printed of it.
+pub struct Story<'a> {
+    names: &'a [&'a str],
+    totals: Vec<Totals>,
+    waiting: String,
+}
+
+#[derive(Clone, Default)]
+struct Totals {
+    commands: usize,
+    pulses: usize,
+    trips: usize,
+}
+
+impl Story<'_> {
+    /// Prints the head of the columns.
+    pub fn begin<'a>(names: &'a [&'a str], out: Out) -> Result<Story<'a>, Failure> {
+        let heads: Vec<String> = names.iter().map(|name| (*name).to_owned()).collect();
+        writeln!(out, "{:>10}  {:>10}  {}", "clock", "ms", columns(&heads).trim_end())?;
+        Ok(Story { names, totals: vec![Totals::default(); names.len()], waiting: String::new() })
+    }
+
+    /// Tells the step, if something came about in it.
+    pub fn step(&mut self, step: &Step, progress: &Progress, out: Out) -> Result<(), Failure> {
+        for (totals, done) in self.totals.iter_mut().zip(&step.of) {
+            totals.add(&done.events);
+        }
+        self.waiting += &told(step);
+        if self.waiting.len() >= AT_ONCE {
+            progress.aside(|| out.write_all(self.waiting.as_bytes()).and_then(|()| out.flush()))?;
+            self.waiting.clear();
+        }
+        Ok(())
+    }
+
+    /// Prints the rest, and how the units ended.
+    pub fn end(self, units: &[Guard], out: Out) -> Result<(), Failure> {
+        writeln!(out, "{}", self.waiting)?;
+        for ((name, totals), unit) in self.names.iter().zip(&self.totals).zip(units) {
+            let Totals { commands, pulses, trips } = totals;
+            writeln!(
+                out,
+                "{name}: {} at clock {}; commands {commands}, pulses {pulses}, trips {trips}",
+                unit.state(),
+                unit.clock()
+            )?;
+        }
+        Ok(())
+    }
+}
+
+impl Totals {
+    fn add(&mut self, events: &[Event]) {
+        for event in events {
+            match event.what {
+                What::Decided { .. } => self.commands += 1,
+                What::Pulse(_) => self.pulses += 1,
+                What::Trip(_) => self.trips += 1,
+                What::Stray(_) | What::Dropped(_) => (),
+            }
+        }
+    }
+}
+
+fn told(step: &Step) -> String {
+    let most = step.of.iter().map(|done| done.events.len()).max().unwrap_or(0);
+    if most == 0 {
+        return String::new();
+    }
+    let mut lines = Vec::new();
+    let events = || step.of.iter().flat_map(|done| &done.events);
+    let decided = events().find_map(|event| match &event.what {
+        What::Decided { bytes, .. } => Some(bytes),
+        _ => None,
+    });
+    if let Some(bytes) = decided {
+        lines.push(format!("> {}  {}", hex::spelt(bytes), words::command(bytes)));
+    }
+    for row in 0..most {
+        let cell = |done: &Done| done.events.get(row).map_or_else(String::new, event);
+        let cells: Vec<String> = step.of.iter().map(cell).collect();
+        let differ = if cells.windows(2).any(|pair| pair[0] != pair[1]) { "differ" } else { "" };
+        lines.push(format!("{}{differ}", columns(&cells)).trim_end().to_owned());
+    }
+    let time = format!("{:>10}  {:>10}", step.clock, words::milliseconds(step.clock));
+    let times = std::iter::once(time.as_str()).chain(std::iter::repeat(""));
+    lines.iter().zip(times).map(|(line, time)| format!("{time:22}  {line}\n")).collect()
+}
+
+/// Cells beside each other; the last is as wide as it is.
+fn columns(cells: &[String]) -> String {
+    if let [only] = cells {
+        return only.clone();
+    }
+    cells.iter().map(|cell| format!("{cell:COLUMN$}  ")).collect()
+}
+
+fn event(event: &Event) -> String {
+    match &event.what {
+        What::Decided { answer, reply, .. } => {
+            format!("{}, reply {}", words::answer(*answer), hex::spelt(&[*reply]))
+        }
+        What::Stray(byte) => format!("stray byte {}, answer 2", hex::spelt(&[*byte])),
+        What::Dropped(bytes) => format!("dropped unfinished: {}", hex::spelt(bytes)),
+        What::Pulse(pulse) => told_pulse(pulse),
+        What::Trip(cause) => format!("TRIP, cause: {cause}"),
+    }
+}
+
+fn told_pulse(pulse: &Pulse) -> String {
+    let Pulse { channel, width, current } = pulse;
+    format!("pulse on channel {channel}: {width} µs, {current} mA")
+}

@@ -1,0 +1,81 @@
+//! Commands and their answers in words.
+
+use crate::channels;
+use yarrowbell::{Answer, Command, Init, Setting};
+
+/// The commands by their Ident.
+pub const COMMANDS: [&str; 4] = ["Init", "Update", "Stop", "Single"];
+
+/// The name of the command that a frame's first byte opens.
+pub fn name(first: u8) -> &'static str {
+    COMMANDS[usize::from(first >> 5 & 3)]
+}
+
+/// The command of a whole frame, with its variables if they can be read.
+pub fn command(bytes: &[u8]) -> String {
+    let count = (bytes.len() - 1) / 3;
+    match yarrowbell::read(bytes, count.clamp(1, 8)) {
+        Ok(frame) => match frame.command {
+            Command::Init(init) => format!("Init: {}", list(init)),
+            Command::Update(settings) => {
+                let settings: Vec<String> = settings[..count].iter().map(setting).collect();
+                format!("Update: {}", settings.join("; "))
+            }
+            Command::Stop => "Stop".to_owned(),
+            Command::Single(single) => format!(
+                "Single: channel {}, {} µs, {} mA",
+                single.channel + 1,
+                single.width,
+                single.current
+            ),
+        },
+        Err(_) => name(bytes[0]).to_owned(),
+    }
+}
+
+fn list(init: Init) -> String {
+    let (t1, t2) = (t1(init.main), t2(init.group.into()));
+    let mut list = format!("channels {}, t1 {t1}, t2 {t2}", channels::spelt(init.stim));
+    if init.lf != 0 {
+        let lf = channels::spelt(init.lf);
+        list += &format!(", low frequency {lf} skipping {} of {}", init.factor, init.factor + 1);
+    }
+    list
+}
+
+fn setting(setting: &Setting) -> String {
+    format!("{} {} µs {} mA", pulses(setting.mode), setting.width, setting.current)
+}
+
+/// Source 003, table 6.
+pub fn pulses(mode: u8) -> &'static str {
+    match mode {
+        0 => "single pulse",
+        1 => "doublet",
+        _ => "triplet",
+    }
+}
+
+/// The main period that a Main_Time gives.
+pub fn t1(main_time: u16) -> String {
+    format!("{} ms", milliseconds(5 * u32::from(main_time) + 10))
+}
+
+/// The group interval that a Group_Time gives.
+pub fn t2(group_time: u16) -> String {
+    format!("{} ms", milliseconds(5 * u32::from(group_time) + 15))
+}
+
+/// Tenths of a millisecond in milliseconds.
+pub fn milliseconds(tenths: u32) -> String {
+    format!("{}.{}", tenths / 10, tenths % 10)
+}
+
+/// An answer to a command.
+pub fn answer(answer: Answer) -> String {
+    let words = match answer {
+        Answer::Done => "command carried out".to_owned(),
+        other => other.to_string(),
+    };
+    format!("answer {}: {words}", answer.number())
+}

@@ -1,0 +1,18 @@
+use std::fs::File;
+use std::process::Command;
+
+/// What cannot be printed is not passed over in silence.
+#[test]
+fn no_room_for_the_output() {
+    for words in [["read", "C0"], ["read", "C1"], ["write", "stop"], ["trace", "030000000001"]] {
+        let full = File::options().write(true).open("/dev/full").expect("Linux has it");
+        let output = Command::new(env!("CARGO_BIN_EXE_yarrowbell"))
+            .args(words)
+            .stdout(full)
+            .output()
+            .expect("the program starts");
+        assert_eq!(output.status.code(), Some(3), "{words:?}");
+        let message = String::from_utf8(output.stderr).expect("it prints UTF-8");
+        assert!(message.starts_with("yarrowbell: cannot print: "), "{message}");
+    }
+}

@@ -1,0 +1,72 @@
+//! Random sessions: their files, and what the independent machine makes of them.
+
+use independent::plain::machine::{BoxRecord, Pulse, Said};
+use independent::Part;
+use soak::sessions::{self, Session};
+use yarrowbell::Profile;
+
+/// The session file, with the bytes of one clock in one line or each in its own.
+pub fn text(session: &Session, together: bool) -> String {
+    let mut lines: Vec<String> = Vec::new();
+    let mut last = None;
+    for (clock, byte) in &session.sent {
+        match lines.last_mut() {
+            Some(line) if together && last == Some(clock) => *line += &format!(" {byte:02x}"),
+            _ => lines.push(format!("{clock} {byte:02X}")),
+        }
+        last = Some(clock);
+    }
+    lines.push(format!("{} end\n", session.end));
+    lines.join("\n")
+}
+
+/// The file of a profile.
+pub fn toml(profile: &Profile) -> String {
+    let Profile { currents, widths, charge, shortest, watchdog } = profile;
+    format!(
+        "currents = {currents:?}\nwidths = {widths:?}\ncharge = {charge}\n\
+         shortest_t1 = {shortest}\nwatchdog = {watchdog}\n"
+    )
+}
+
+/// A call: the clock after it, the byte if it is one, and what is said to it.
+pub struct Call {
+    pub clock: u32,
+    pub byte: Option<u8>,
+    pub said: Said,
+}
+
+impl Call {
+    /// The pulse that it releases.
+    pub fn pulse(&self) -> Option<Pulse> {
+        match [self.said.a, self.said.b].map(|pulse| (pulse.channel != 0).then_some(pulse)) {
+            [Some(a), Some(b)] => panic!("two pulses in one call: {a:?}, {b:?}"),
+            [a, b] => a.or(b),
+        }
+    }
+}
+
+/// All calls of the session on a box of this profile, and the readout after them.
+pub fn played(session: &Session, profile: Profile) -> (Vec<Call>, Vec<u8>) {
+    let profile = sessions::profile(profile);
+    let mut unit = BoxRecord::new(profile, session.capacity).expect("both are good");
+    let mut ring = vec![0; session.capacity];
+    let at = Part { offset: 0, size: session.capacity };
+    let mut sent = session.sent.iter().peekable();
+    let mut calls = Vec::new();
+    loop {
+        while let Some(&(clock, byte)) = sent.next_if(|(clock, _)| *clock == unit.clock) {
+            let said = unit.byte(&mut ring, at, byte);
+            calls.push(Call { clock, byte: Some(byte), said });
+        }
+        if unit.clock == session.end {
+            break;
+        }
+        let said = unit.tick(&mut ring, at);
+        calls.push(Call { clock: unit.clock, byte: None, said });
+    }
+    let mut out = vec![0; session.capacity];
+    let used = unit.read_out(&ring, at, &mut out).expect("it has room");
+    out.truncate(used);
+    (calls, out)
+}

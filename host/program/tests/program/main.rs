@@ -1,0 +1,30 @@
+//! The program `yarrowbell` as a user runs it.
+
+mod folder;
+mod independently;
+mod random;
+mod run;
+#[path = "../../../tests/shared/seeded.rs"]
+mod seeded;
+mod told;
+mod written;
+
+mod bad_sessions;
+mod beside;
+mod demo;
+mod full;
+mod help;
+mod lessons;
+mod misspelt;
+mod pages;
+mod papers;
+mod pipes;
+mod readings;
+mod refusals;
+mod round_trips;
+mod sessions;
+mod sheets;
+mod soaking;
+mod traces;
+mod untraceable;
+mod writings;

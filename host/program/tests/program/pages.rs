@@ -1,0 +1,78 @@
+//! The pages for people: what stands there is what the program prints and draws.
+
+use crate::folder::Folder;
+use std::fs;
+use std::path::Path;
+
+fn page(name: &str) -> String {
+    let file = Path::new(env!("CARGO_MANIFEST_DIR")).join("../../docs").join(name);
+    fs::read_to_string(file).unwrap_or_else(|error| panic!("{name}: {error}"))
+}
+
+#[test]
+fn at_the_bench() {
+    examples_are_real("BENCH.md", 6);
+}
+
+#[test]
+fn teaching() {
+    examples_are_real("TEACHING.md", 12);
+}
+
+/// README's picture is the demo's.
+#[test]
+fn the_picture() {
+    let folder = Folder::new("the_picture");
+    assert_eq!(folder.line("demo").status, 0);
+    assert!(folder.text("demo.svg") == page("demo.svg"), "docs/demo.svg is another picture");
+}
+
+/// A line `$ cat FILE` is followed by the file, which is written here. A line `$ yarrowbell ..` is
+/// followed by lines that the program prints in this order; `...` stands for others between them.
+fn examples_are_real(name: &str, least: usize) {
+    let folder = Folder::new(name);
+    let text = page(name);
+    let mut runs = 0;
+    for (head, lines) in examples(&text) {
+        match head.split_once(' ') {
+            Some(("cat", name)) => folder.put(name, lines.join("\n")),
+            Some(("yarrowbell", rest)) => {
+                printed(&folder, rest, &lines);
+                runs += 1;
+            }
+            _ => panic!("{head}"),
+        }
+    }
+    assert!(runs >= least, "{runs} examples were found");
+}
+
+/// What stands behind each `$` in an indented block, and the lines that follow it there, up to the
+/// next text.
+fn examples(text: &str) -> Vec<(&str, Vec<&str>)> {
+    let mut examples: Vec<(&str, Vec<&str>)> = Vec::new();
+    let mut within = false;
+    for line in text.lines() {
+        match line.strip_prefix("    ") {
+            Some(line) => match (line.trim_start().strip_prefix("$ "), examples.last_mut()) {
+                (Some(head), _) => {
+                    within = true;
+                    examples.push((head, Vec::new()));
+                }
+                (None, Some((_, lines))) if within => lines.push(line.trim_start()),
+                _ => (),
+            },
+            None => within &= line.is_empty(),
+        }
+    }
+    examples
+}
+
+fn printed(folder: &Folder, words: &str, lines: &[&str]) {
+    let ran = folder.line(words);
+    assert_eq!((ran.status, ran.err.as_str()), (0, ""), "{words}");
+    let same = |one: &str, other: &str| one.split_whitespace().eq(other.split_whitespace());
+    let mut rest = ran.out.lines();
+    for line in lines.iter().filter(|line| **line != "...") {
+        assert!(rest.any(|other| same(line, other)), "{words}: {line:?} is not in\n{}", ran.out);
+    }
+}

@@ -1,0 +1,44 @@
+//! A reader who goes away, as `head` does: the program ends quietly.
+
+use crate::folder::Folder;
+use std::io::{BufRead, BufReader};
+use std::os::fd::OwnedFd;
+use std::os::unix::net::UnixStream;
+use std::process::{Command, Stdio};
+
+#[test]
+fn closed_before() {
+    for words in [["read", "C0"], ["write", "stop"], ["trace", "030000000001"]] {
+        let (here, there) = UnixStream::pair().expect("two ends");
+        drop(here);
+        let output = Command::new(env!("CARGO_BIN_EXE_yarrowbell"))
+            .args(words)
+            .stdout(Stdio::from(OwnedFd::from(there)))
+            .output()
+            .expect("the program starts");
+        assert_eq!((output.status.code(), output.stderr), (Some(0), Vec::new()), "{words:?}");
+    }
+}
+
+#[test]
+fn closed_after_a_line() {
+    let list = "0 88 01 20 00 30 12\n5 BB 01 48 28 22 2C 1E\n100000 end\n";
+    let folder = Folder::new("closed_after_a_line").with("s", list);
+    for words in [&["replay", "s", "--calls"][..], &["replay", "s"]] {
+        let mut child = Command::new(env!("CARGO_BIN_EXE_yarrowbell"))
+            .current_dir(folder.path())
+            .args(words)
+            .stdout(Stdio::piped())
+            .stderr(Stdio::piped())
+            .spawn()
+            .expect("the program starts");
+        let mut out = BufReader::new(child.stdout.take().expect("it is piped"));
+        let mut line = String::new();
+        out.read_line(&mut line).expect("it prints a line");
+        assert!(line.contains("clock"), "{line}");
+        drop(out);
+        let output = child.wait_with_output().expect("the program ends");
+        assert_eq!(output.status.code(), Some(0), "{words:?}");
+        assert_eq!(String::from_utf8_lossy(&output.stderr), "", "{words:?}");
+    }
+}

@@ -1,0 +1,88 @@
+//! Ring readouts, record by record.
+
+use crate::run::{printed, prints};
+use crate::written::written;
+
+const HEAD: &str = "  at       clock           ms  record";
+
+/// Document 01's case 13, by the bytes written there.
+const CASE_13: &str =
+    "02 64 00 00 00 01 C8 00 28 02 73 00 00 00 03 2C 01 1E 02 91 00 00 00 03 2C 01 1E";
+
+#[test]
+fn case_13() {
+    prints(
+        &format!("trace {CASE_13}"),
+        &[
+            HEAD,
+            "   0         100         10.0  pulse   channel 1, width 200 µs, current 40 mA",
+            "   9         115         11.5  pulse   channel 3, width 300 µs, current 30 mA",
+            "  18         145         14.5  pulse   channel 3, width 300 µs, current 30 mA",
+        ],
+    );
+}
+
+#[test]
+fn every_kind_of_record() {
+    prints(
+        "trace 01000000000000 01050000000106 01060000000209 02FFFFFFFF08F4017F 03FF0000000201 \
+         00000000030A 030100000001",
+        &[
+            HEAD,
+            "   0           0          0.0  answer  Ident 0 (Init), answer 0: command carried out",
+            "   7           5          0.5  answer  Ident 1 (Update), answer 6: Update, no list",
+            "  14           6          0.6  answer  Ident 2 (Stop), answer 9: over a limit",
+            "  21  4294967295  429496729.5  pulse   channel 8, width 500 µs, current 127 mA",
+            "  30         255         25.5  trip    cause 2: watchdog",
+            "  36           0          0.0  answer  Ident 3 (Single), answer 10: Update or Single \
+             while tripped",
+            "  43           1          0.1  trip    cause 1: limit",
+        ],
+    );
+}
+
+/// A record is known by its kind byte alone.
+#[test]
+fn fields_out_of_their_range() {
+    prints(
+        "trace 01000000000402 0100000000FF0B 020000000000090080 020000000009F50110 030000000000",
+        &[
+            HEAD,
+            "   0           0          0.0  answer  Ident 4 (out of range: Ident is 0 to 3), \
+             answer 2 (out of range: an answer is 0 or 3 to 10)",
+            "   7           0          0.0  answer  Ident 255 (out of range: Ident is 0 to 3), \
+             answer 11 (out of range: an answer is 0 or 3 to 10)",
+            "  14           0          0.0  pulse   channel 0 (out of range: a channel is 1 to 8), \
+             width 9 µs (out of range: a width is 0 or 10 to 500 µs), \
+             current 128 mA (out of range: a current is 0 to 127 mA)",
+            "  23           0          0.0  pulse   channel 9 (out of range: a channel is 1 to 8), \
+             width 501 µs (out of range: a width is 0 or 10 to 500 µs), current 16 mA",
+            "  32           0          0.0  trip    cause 0 (out of range: a cause is 1 or 2)",
+        ],
+    );
+}
+
+#[test]
+fn a_file() {
+    let text = "# case 13\n 0264 00 00 00\t01 C800 28 # a pulse\r\n\n#\n\
+                0273000000032c011e 02 91 00 00 00 03 2C 01 1E";
+    let file = written("case_13.trace", text.as_bytes());
+    assert_eq!(printed(&format!("trace {file}")), printed(&format!("trace {CASE_13}")));
+}
+
+#[test]
+fn an_empty_readout() {
+    for text in ["", "\n \n", "# 03\n#"] {
+        let file = written("empty.trace", text.as_bytes());
+        prints(&format!("trace {file}"), &["no records"]);
+    }
+}
+
+/// The greatest ring there is, full.
+#[test]
+fn a_readout_of_4096_bytes() {
+    let bytes = "01000000000000 ".repeat(4) + &"030000000001 ".repeat(678);
+    let text = printed(&format!("trace {bytes}"));
+    assert_eq!(text.lines().count(), 1 + 4 + 678);
+    assert!(text.ends_with("4090           0          0.0  trip    cause 1: limit\n"));
+}

@@ -1,0 +1,98 @@
+//! Words and files that are no readout.
+
+use crate::random;
+use crate::run::{self, bad};
+use crate::written::written;
+use rand::Rng;
+use yarrowbell::calls::ring_ready;
+use yarrowbell::raw::{Part, Ring};
+
+const ANSWER: &str = "(answer 14: used ring bytes do not split into whole known records)";
+
+fn unknown(at: usize, kind: &str) -> String {
+    format!(
+        "byte {at} (counted from 0) is {kind}, and no record is of that kind: 01 is an answer, 02 \
+         a pulse, 03 a trip {ANSWER}"
+    )
+}
+
+fn cut(at: usize, kind: &str, length: usize, there: usize) -> String {
+    format!(
+        "the record at byte {at} (counted from 0) is cut short: one of kind {kind} has {length} \
+         bytes, and {there} are there {ANSWER}"
+    )
+}
+
+#[test]
+fn bytes_that_are_no_records() {
+    let words =
+        |words: &str, what: &str| bad(&format!("trace {words}"), &format!("<HEX>...: {what}"));
+    words("00", &unknown(0, "00"));
+    words("030000000001 04 03", &unknown(6, "04"));
+    words("01", &cut(0, "01", 7, 1));
+    words("030000000001 026400000001C800", &cut(6, "02", 9, 8));
+    words("0300000000", &cut(0, "03", 6, 5));
+    let most = "a ring has at most 4096";
+    words(&"03".repeat(4097), &format!("4097 bytes cannot be a readout: {most}"));
+}
+
+#[test]
+fn a_file_of_no_records() {
+    let file = written("unknown.trace", b"# two\n0300000000\n01\n 04 00");
+    bad(&format!("trace {file}"), &format!("{file}:4: {}", unknown(6, "04")));
+    let file = written("cut.trace", b"030000000001\n03\n00");
+    bad(&format!("trace {file}"), &format!("{file}:2: {}", cut(6, "03", 6, 2)));
+    let file = written("long.trace", "030000000001\n".repeat(683).as_bytes());
+    let most = "a ring has at most 4096";
+    bad(&format!("trace {file}"), &format!("{file}: 4098 bytes cannot be a readout: {most}"));
+}
+
+#[test]
+fn a_file_that_is_not_hex() {
+    let file = written("not_hex.trace", b"03 00\n00 0x");
+    bad(&format!("trace {file}"), &format!("{file}:2: 'x' is not a hex digit"));
+    let file = written("odd.trace", b"03 00 # 0\n\n000");
+    let odd = "\"000\" has an odd number of hex digits, and a byte has two";
+    bad(&format!("trace {file}"), &format!("{file}:3: {odd}"));
+    let file = written("not_text.trace", b"03 00\n\xFF");
+    bad(&format!("trace {file}"), &format!("{file}:2: not UTF-8, and so no text"));
+    let directory = env!("CARGO_TARGET_TMPDIR");
+    let message = format!("{directory}: Is a directory (os error 21)");
+    bad(&format!("trace {directory}"), &message);
+}
+
+#[test]
+fn words_that_are_neither_hex_nor_a_file() {
+    let odd = "\"030\" has an odd number of hex digits, and a byte has two";
+    for (words, word, why, no_file) in [
+        ("XY", "XY", "'X' is not a hex digit", "no such file is there"),
+        ("./030000000001", "./030000000001", "'.' is not a hex digit", "no such file is there"),
+        ("030", "030", odd, "no such file is there"),
+        ("030000000001 030", "030", odd, "a file stands alone"),
+        ("/dev/null 03", "/dev/null", "'/' is not a hex digit", "a file stands alone"),
+    ] {
+        let what = format!("{word:?} is neither bytes in hex ({why}) nor a file ({no_file})");
+        bad(&format!("trace {words}"), &format!("<HEX>...: {what}"));
+    }
+    let ran = run::words(&["trace", ""]);
+    assert_eq!((ran.status, ran.out.as_str()), (2, ""));
+    assert!(ran.err.starts_with("<HEX>...: \"\" is neither bytes in hex (no hex digits)"));
+}
+
+/// Bytes are a readout for the program exactly if they are for the library.
+#[test]
+fn any_bytes() {
+    let mut readouts = 0;
+    random::seeded(7_000..7_600, |rng| {
+        let mut bytes: Vec<u8> = (0..rng.gen_range(1..32)).map(|_| rng.gen_range(0..5)).collect();
+        let length = bytes.len();
+        let words: String = bytes.iter().map(|byte| format!("{byte:02X}")).collect();
+        bytes.resize(32, 0);
+        let ring = Ring { capacity: 32, start: 0, used: length };
+        let ready = ring_ready(&bytes, Part { offset: 0, size: 32 }, ring) == 0;
+        let ran = run::words(&["trace", &words]);
+        assert_eq!((ran.status, ran.out.is_empty()), if ready { (0, false) } else { (2, true) });
+        readouts += u32::from(ready);
+    });
+    assert!(readouts > 20, "{readouts}");
+}
