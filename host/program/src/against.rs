@@ -70,7 +70,7 @@ impl Against {
         let broken = self.only_second.first().map(|pulse| pulse.clock);
         writeln!(
             out,
-            "- Each pulse of {other} {one} releases too, same clock, channel, width, current:"
+            "- Each pulse of {other} is released by {one} too, same clock, channel, width, current:"
         )?;
         held(broken, self.pulses, "pulses", out)?;
         writeln!(out, "- From the start, or from a call by which {other} leaves the tripped state, until just")?;

@@ -1,5 +1,6 @@
 //! What a unit did in a session, as people tell it: commands, pulses and trips.
 
+use crate::picture::{self, Panel};
 use crate::play::Step;
 use crate::unit::Call;
 use std::fmt;
@@ -64,6 +65,13 @@ impl Courses {
         for (course, done) in self.0.iter_mut().zip(step.of) {
             course.extend(done.events);
         }
+    }
+
+    /// A picture of all, with their names, up to the clock at the end.
+    pub fn drawn(&self, names: &[&str], end: u32) -> String {
+        let panels = names.iter().zip(&self.0);
+        let panels: Vec<Panel> = panels.map(|(title, events)| Panel { title, events }).collect();
+        picture::svg(&panels, end)
     }
 }
 

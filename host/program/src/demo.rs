@@ -4,12 +4,8 @@ use crate::against::Against;
 use crate::course::Courses;
 use crate::failure::{Failure, Out};
 use crate::files::Planned;
-use crate::hex;
-use crate::picture::{self, Panel};
-use crate::play::play;
-use crate::progress::Progress;
 use crate::session::Session;
-use crate::story::Story;
+use crate::{hex, story};
 use clap::Args;
 use std::path::Path;
 use yarrowbell::{Guard, Profile};
@@ -53,28 +49,21 @@ impl Demo {
         writeln!(out, "  lax     limits at their loosest, watchdog 25.0 ms")?;
         writeln!(out, "  strict  the same, but watchdog 15.0 ms")?;
         writeln!(out)?;
-        let mut story = Story::begin(&NAMES, out)?;
         let mut against = Against::default();
         let mut courses = Courses::of(guards.len());
-        let progress = Progress::of_calls(session.number_of_calls());
         let [lax, strict] = &mut guards;
-        play(&session, &mut [lax, strict], &progress, |step| {
-            story.step(&step, &progress, out)?;
+        let each = |step| {
             against.step(&step);
             courses.add(step);
-            Ok(())
-        })?;
-        drop(progress);
-        story.end(&guards, out)?;
+        };
+        story::tell(&session, &NAMES, &mut [lax, strict], each, out)?;
         against.tell(NAMES, &LAX, &STRICT, out)?;
 
         for ((planned, name), guard) in traces.into_iter().zip(NAMES).zip(&guards) {
             let trace = hex::spelt(&guard.trace().expect("its own ring is ready"));
             planned.write(format!("# case 12, {name} unit\n{trace}\n").as_bytes())?;
         }
-        let panels = NAMES.iter().zip(&courses.0);
-        let panels: Vec<Panel> = panels.map(|(title, events)| Panel { title, events }).collect();
-        picture.write(picture::svg(&panels, session.end()).as_bytes())?;
+        picture.write(courses.drawn(&NAMES, session.end()).as_bytes())?;
         writeln!(out)?;
         writeln!(out, "Written: {PICTURE} (the picture), {} (the traces;", TRACES.join(" and "))?;
         writeln!(out, "`yarrowbell trace {}` tells what is in one).", TRACES[0])?;

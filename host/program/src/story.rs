@@ -2,10 +2,11 @@
 
 use crate::course::{Event, Pulse, What};
 use crate::failure::{Failure, Out};
-use crate::play::{Done, Step};
+use crate::play::{play, Done, Step};
 use crate::progress::Progress;
+use crate::session::Session;
+use crate::unit::Unit;
 use crate::{hex, words};
-use yarrowbell::Guard;
 
 /// How wide a column is at least, without the space behind it.
 const COLUMN: usize = 42;
@@ -13,8 +14,27 @@ const COLUMN: usize = 42;
 /// How much is printed at once: the bar of a long run is taken away for it, and put back.
 const AT_ONCE: usize = 4096;
 
+/// Plays a session on units, which have names, and tells what they do. Each step is handed on.
+pub fn tell(
+    session: &Session,
+    names: &[&str],
+    units: &mut [&mut dyn Unit],
+    mut each: impl FnMut(Step),
+    out: Out,
+) -> Result<(), Failure> {
+    let progress = Progress::of_calls(session.number_of_calls());
+    let mut story = Story::begin(names, out)?;
+    play(session, units, &progress, |step| {
+        story.step(&step, &progress, out)?;
+        each(step);
+        Ok(())
+    })?;
+    drop(progress);
+    story.end(units, out)
+}
+
 /// The units by their names, what they have done so far, and what is yet to be printed of it.
-pub struct Story<'a> {
+struct Story<'a> {
     names: &'a [&'a str],
     totals: Vec<Totals>,
     waiting: String,
@@ -29,14 +49,14 @@ struct Totals {
 
 impl Story<'_> {
     /// Prints the head of the columns.
-    pub fn begin<'a>(names: &'a [&'a str], out: Out) -> Result<Story<'a>, Failure> {
+    fn begin<'a>(names: &'a [&'a str], out: Out) -> Result<Story<'a>, Failure> {
         let heads: Vec<String> = names.iter().map(|name| (*name).to_owned()).collect();
         writeln!(out, "{:>10}  {:>10}  {}", "clock", "ms", columns(&heads).trim_end())?;
         Ok(Story { names, totals: vec![Totals::default(); names.len()], waiting: String::new() })
     }
 
     /// Tells the step, if something came about in it.
-    pub fn step(&mut self, step: &Step, progress: &Progress, out: Out) -> Result<(), Failure> {
+    fn step(&mut self, step: &Step, progress: &Progress, out: Out) -> Result<(), Failure> {
         for (totals, done) in self.totals.iter_mut().zip(&step.of) {
             totals.add(&done.events);
         }
@@ -49,16 +69,13 @@ impl Story<'_> {
     }
 
     /// Prints the rest, and how the units ended.
-    pub fn end(self, units: &[Guard], out: Out) -> Result<(), Failure> {
+    fn end(self, units: &[&mut dyn Unit], out: Out) -> Result<(), Failure> {
         writeln!(out, "{}", self.waiting)?;
         for ((name, totals), unit) in self.names.iter().zip(&self.totals).zip(units) {
+            let (state, clock) = (unit.guard().state(), unit.guard().clock());
             let Totals { commands, pulses, trips } = totals;
-            writeln!(
-                out,
-                "{name}: {} at clock {}; commands {commands}, pulses {pulses}, trips {trips}",
-                unit.state(),
-                unit.clock()
-            )?;
+            write!(out, "{name}: {state} at clock {clock}; ")?;
+            writeln!(out, "commands {commands}, pulses {pulses}, trips {trips}")?;
         }
         Ok(())
     }

@@ -5,5 +5,8 @@ mod bytes;
 mod layouts;
 mod papers;
 mod places;
+mod profiles;
 mod refusals;
 mod replies;
+#[path = "../shared/seeded.rs"]
+mod seeded;

@@ -1,20 +1,10 @@
 //! Document 01's cases of the box, through the guard.
 
-use yarrowbell::{Answer, Guard, Profile, Released};
-
-pub const LOOSEST: Profile = Profile {
-    currents: [127; 8],
-    widths: [500; 8],
-    charge: 63_500,
-    shortest: 30,
-    watchdog: 600_000,
-};
+use yarrowbell::{Answer, Guard, Profile, Released, State};
 
 const INIT: [u8; 6] = [0x88, 0x01, 0x20, 0x00, 0x30, 0x12];
 const UPDATE: [u8; 7] = [0xBB, 0x01, 0x48, 0x28, 0x22, 0x2C, 0x1E];
 const SINGLE: [u8; 4] = [0xEF, 0x01, 0x48, 0x27];
-
-const TRIPPED: u8 = 2;
 
 fn answers(guard: &mut Guard, bytes: &[u8]) -> Vec<(u8, Option<u8>)> {
     let mut answer = |&byte: &u8| {
@@ -36,7 +26,7 @@ fn ticks(guard: &mut Guard, count: usize) -> Vec<Released> {
 
 /// The Init of case 5 at clock 0 and the Update of case 6 at clock 5, with a watchdog of 250.
 fn begun(capacity: usize) -> Guard {
-    let profile = Profile { watchdog: 250, ..LOOSEST };
+    let profile = Profile { watchdog: 250, ..Profile::LOOSEST };
     let mut guard = Guard::new(profile, capacity).expect("profile and capacity are good");
     assert_eq!(answers(&mut guard, &INIT)[5], (0, Some(0x01)));
     assert_eq!(ticks(&mut guard, 5), []);
@@ -51,9 +41,9 @@ fn case_12() {
     let third = |clock| Released { clock, channel: 3, width: 300, current: 30 };
     let pulses = [first(100), third(115), third(145), first(200), third(215), third(245)];
     assert_eq!(ticks(&mut guard, 249), pulses);
-    assert_ne!(guard.record().core.state, TRIPPED);
+    assert_eq!(guard.state(), State::Running);
     assert_eq!(ticks(&mut guard, 1), []);
-    assert_eq!((guard.record().clock, guard.record().core.state), (255, TRIPPED));
+    assert_eq!((guard.clock(), guard.state()), (255, State::Tripped));
     assert_eq!(ticks(&mut guard, 5_000), []);
     let trace = guard.trace().expect("the output has room");
     assert_eq!(trace[trace.len() - 6..], [3, 255, 0, 0, 0, 2]);
@@ -79,7 +69,7 @@ fn case_13() {
 
 #[test]
 fn case_14() {
-    let mut guard = Guard::new(LOOSEST, 64).expect("profile and capacity are good");
+    let mut guard = Guard::new(Profile::LOOSEST, 64).expect("profile and capacity are good");
     let mut expected = vec![(6, Some(0x40))];
     expected.extend([(2, None); 6]);
     assert_eq!(answers(&mut guard, &UPDATE), expected);
@@ -87,7 +77,7 @@ fn case_14() {
 
 #[test]
 fn case_15() {
-    let mut guard = Guard::new(LOOSEST, 64).expect("profile and capacity are good");
+    let mut guard = Guard::new(Profile::LOOSEST, 64).expect("profile and capacity are good");
     let unfinished = [(1, None); 3];
     let twice = [SINGLE, SINGLE].concat();
     let expected = [&unfinished[..], &[(0, Some(0xC1))], &unfinished, &[(8, Some(0xC0))]].concat();
@@ -98,11 +88,11 @@ fn case_15() {
 
 #[test]
 fn case_16() {
-    let refusal = Guard::new(LOOSEST, 15).expect_err("15 bytes are too few");
+    let refusal = Guard::new(Profile::LOOSEST, 15).expect_err("15 bytes are too few");
     assert_eq!(refusal.answer, Answer::RingOutside);
     for capacity in [16, 4096] {
-        let guard = Guard::new(LOOSEST, capacity).expect("profile and capacity are good");
+        let guard = Guard::new(Profile::LOOSEST, capacity).expect("profile and capacity are good");
         assert_eq!(guard.trace(), Ok(vec![]));
     }
-    assert!(Guard::new(LOOSEST, 4097).is_err());
+    assert!(Guard::new(Profile::LOOSEST, 4097).is_err());
 }

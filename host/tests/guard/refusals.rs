@@ -1,10 +1,9 @@
 //! The words of refusals.
 
-use crate::papers::LOOSEST;
 use yarrowbell::{About, Answer, Guard, Profile, Refusal};
 
 fn refused(change: impl Fn(&mut Profile)) -> String {
-    let mut profile = LOOSEST;
+    let mut profile = Profile::LOOSEST;
     change(&mut profile);
     let refusal = Guard::new(profile, 64).expect_err("the profile is not good");
     assert_eq!(refusal.answer, Answer::ProfileNotGood);
@@ -39,7 +38,7 @@ fn profiles() {
 /// 11 is tested before 13.
 #[test]
 fn a_profile_before_its_ring() {
-    let profile = Profile { watchdog: 0, ..LOOSEST };
+    let profile = Profile { watchdog: 0, ..Profile::LOOSEST };
     let refusal = Guard::new(profile, 15).expect_err("the profile is not good");
     assert_eq!(refusal.answer, Answer::ProfileNotGood);
 }
@@ -47,7 +46,7 @@ fn a_profile_before_its_ring() {
 #[test]
 fn capacities() {
     for capacity in [0, 15, 4_097, usize::MAX] {
-        let refusal = Guard::new(LOOSEST, capacity).expect_err("the capacity is not good");
+        let refusal = Guard::new(Profile::LOOSEST, capacity).expect_err("the capacity is not good");
         let ring = format!("a ring of {capacity} bytes, where 16 to 4096 are good");
         let words = "ring part outside the lent buffer, or its size not the box's capacity";
         assert_eq!(refusal.to_string(), format!("answer 13: {ring}: {words}"));
@@ -56,7 +55,7 @@ fn capacities() {
 
 #[test]
 fn outputs() {
-    let mut guard = Guard::new(LOOSEST, 64).expect("profile and capacity are good");
+    let mut guard = Guard::new(Profile::LOOSEST, 64).expect("profile and capacity are good");
     guard.byte(0xC0).expect("a Stop is taken");
     let mut out = [0xAA; 6];
     let refusal = guard.readout(&mut out).expect_err("the trace has 7 bytes");

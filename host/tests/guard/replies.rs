@@ -1,7 +1,6 @@
 //! Which bytes are replied to, and where a pulse stands.
 
-use crate::papers::LOOSEST;
-use yarrowbell::{Answer, Guard, Released, Told};
+use yarrowbell::{Answer, Guard, Profile, Released, Told};
 
 fn last(guard: &mut Guard, bytes: &[u8]) -> Told {
     let told = bytes.iter().map(|&byte| guard.byte(byte).expect("the box takes every byte"));
@@ -11,7 +10,7 @@ fn last(guard: &mut Guard, bytes: &[u8]) -> Told {
 /// A refused Init has the reply 00, which is not the same as none.
 #[test]
 fn a_refused_init_is_replied_to() {
-    let mut guard = Guard::new(LOOSEST, 64).expect("profile and capacity are good");
+    let mut guard = Guard::new(Profile::LOOSEST, 64).expect("profile and capacity are good");
     let told = last(&mut guard, &[0x8C, 0x01, 0x20, 0x00, 0x30, 0x12]);
     assert_eq!((told.answer, told.reply), (Answer::WrongCheck, Some(0x00)));
     let told = last(&mut guard, &[0x88]);
@@ -22,7 +21,7 @@ fn a_refused_init_is_replied_to() {
 
 #[test]
 fn a_pulse_stands_in_its_modules_place() {
-    let mut guard = Guard::new(LOOSEST, 64).expect("profile and capacity are good");
+    let mut guard = Guard::new(Profile::LOOSEST, 64).expect("profile and capacity are good");
     let told = last(&mut guard, &[0xE2, 0x21, 0x48, 0x78]);
     let pulse = Released { clock: 0, channel: 3, width: 200, current: 120 };
     assert_eq!(told.pulses, [Some(pulse), None]);

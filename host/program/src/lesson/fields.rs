@@ -75,8 +75,8 @@ pub fn teach(out: Out) -> Result<Drawn, Failure> {
     PAGE.end(out)?;
 
     Ok(Drawn {
-        wrong: ("wrong: the trace by guessed fields", guessed(&done, &records)),
-        proved: ("proved: what the unit released", done),
+        titles: ["wrong: the trace by guessed fields", "proved: what the unit released"],
+        courses: Courses(vec![guessed(&done, &records), done]),
         end: session.end(),
     })
 }

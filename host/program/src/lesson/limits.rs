@@ -1,11 +1,12 @@
 //! `yarrowbell lesson limits`
 
 use super::page::{Page, Theorem};
-use super::{beside, wrong, Drawn};
+use super::{wrong, Drawn};
 use crate::against::Against;
-use crate::course::Event;
+use crate::course::{Courses, Event};
 use crate::failure::{Failure, Out};
 use crate::session::Session;
+use crate::story;
 use crate::unit::{Call, Unit};
 use yarrowbell::{Guard, Profile, Told};
 
@@ -74,8 +75,11 @@ pub fn teach(out: Out) -> Result<Drawn, Failure> {
     let proved = beside_lax("proved strict", &mut guard(STRICT), &session, out)?;
     PAGE.end(out)?;
     Ok(Drawn {
-        wrong: ("wrong strict: it pulses where the lax unit is silent", wrong),
-        proved: ("proved strict: it trips at answer 9", proved),
+        titles: [
+            "wrong strict: it pulses where the lax unit is silent",
+            "proved strict: it trips at answer 9",
+        ],
+        courses: Courses(vec![wrong, proved]),
         end: session.end(),
     })
 }
@@ -88,11 +92,15 @@ fn beside_lax(
     out: Out,
 ) -> Result<Vec<Event>, Failure> {
     let mut against = Against::default();
-    let units: [&mut dyn Unit; 2] = [&mut guard(LAX), strict];
+    let mut courses = Courses::of(2);
     let names = ["lax", name];
-    let [_, done] = beside::told(session, &names, units, |step| against.step(step), out)?;
+    let each = |step| {
+        against.step(&step);
+        courses.add(step);
+    };
+    story::tell(session, &names, &mut [&mut guard(LAX), strict], each, out)?;
     against.tell(names, &LAX, &STRICT, out)?;
-    Ok(done)
+    Ok(courses.0.remove(1))
 }
 
 fn guard(profile: Profile) -> Guard {

@@ -1,16 +1,14 @@
 //! `yarrowbell lesson`
 
-mod beside;
 mod fields;
 mod limits;
 mod page;
 mod ring;
 mod wrong;
 
-use crate::course::Event;
+use crate::course::Courses;
 use crate::failure::{Failure, Out};
 use crate::files::Planned;
-use crate::picture::{self, Panel};
 use clap::{Args, Subcommand};
 use std::path::PathBuf;
 
@@ -53,10 +51,10 @@ struct Words {
     plot: Option<PathBuf>,
 }
 
-/// What a lesson draws, with titles: the wrong one, and the proved one; and the clock at the end.
+/// What a lesson draws: the wrong one, the proved one, and the clock at the end.
 struct Drawn {
-    wrong: (&'static str, Vec<Event>),
-    proved: (&'static str, Vec<Event>),
+    titles: [&'static str; 2],
+    courses: Courses,
     end: u32,
 }
 
@@ -70,15 +68,8 @@ impl Lesson {
             Of::Limits(_) => limits::teach(out)?,
         };
         if let Some(plot) = plot {
-            plot.write(drawn.svg().as_bytes())?;
+            plot.write(drawn.courses.drawn(&drawn.titles, drawn.end).as_bytes())?;
         }
         Ok(())
-    }
-}
-
-impl Drawn {
-    fn svg(&self) -> String {
-        let panels = [&self.wrong, &self.proved].map(|(title, events)| Panel { title, events });
-        picture::svg(&panels, self.end)
     }
 }

@@ -1,10 +1,11 @@
 //! `yarrowbell lesson ring`
 
 use super::page::{Page, Theorem};
-use super::{beside, wrong, Drawn};
+use super::{wrong, Drawn};
+use crate::course::Courses;
 use crate::failure::{Failure, Out};
-use crate::hex;
 use crate::unit::{Call, Unit};
+use crate::{hex, story};
 use yarrowbell::raw::Part;
 use yarrowbell::{calls, Guard, Profile, Told};
 
@@ -124,8 +125,9 @@ pub fn teach(out: Out) -> Result<Drawn, Failure> {
             Call::Tick => calls::tick_in_place(&mut lent, memory, RING),
         };
     });
-    let units: [&mut dyn Unit; 2] = [&mut wrong, &mut proved];
-    let [of_wrong, of_proved] = beside::told(&session, &["wrong", "proved"], units, |_| (), out)?;
+    let mut courses = Courses::of(2);
+    let units: &mut [&mut dyn Unit] = &mut [&mut wrong, &mut proved];
+    story::tell(&session, &["wrong", "proved"], units, |step| courses.add(step), out)?;
     writeln!(out, "\nThe memory around the ring's end, and at its front:\n")?;
     writeln!(out, "byte                27 28 29 30 31 | 32 33 34 35    0  1  2  3")?;
     for (name, seen) in [("wrong", wrong.seen), ("proved", proved.seen)] {
@@ -137,8 +139,8 @@ pub fn teach(out: Out) -> Result<Drawn, Failure> {
     }
     PAGE.end(out)?;
     Ok(Drawn {
-        wrong: ("wrong: the Stop at clock 250 is lost", of_wrong),
-        proved: ("proved: the Stop at clock 250 is taken", of_proved),
+        titles: ["wrong: the Stop at clock 250 is lost", "proved: the Stop at clock 250 is taken"],
+        courses,
         end: session.end(),
     })
 }

@@ -6,16 +6,10 @@ use crate::against::Against;
 use crate::course::Courses;
 use crate::failure::{BadInput, Failure, Out};
 use crate::files::Planned;
-use crate::picture::{self, Panel};
-use crate::play::play;
-use crate::progress::Progress;
 use crate::session::Session;
-use crate::story::Story;
 use crate::unit::Unit;
-use crate::{hex, number, profile};
+use crate::{hex, number, profile, story};
 use clap::Args;
-use sheet::Sheet;
-use std::io::{self, IsTerminal};
 use std::path::PathBuf;
 use yarrowbell::{Guard, Profile};
 
@@ -87,10 +81,9 @@ impl Replay {
             None => session,
         };
         let first = profile::of_file(self.profile.as_deref())?;
-        let second =
-            self.against.as_deref().map(|file| profile::of_file(Some(file))).transpose()?;
-        let profiles: Vec<Profile> = [first].into_iter().chain(second).collect();
-        let guards = profiles.iter().map(|profile| self.guard(*profile));
+        let second = self.against.as_deref().map(|file| profile::of_file(Some(file)));
+        let second = second.transpose()?;
+        let guards = [first].into_iter().chain(second).map(|profile| self.guard(profile));
         let mut guards = guards.collect::<Result<Vec<Guard>, BadInput>>()?;
         let plot = self.plot.as_deref().map(Planned::new).transpose()?;
         let names: &[&str] = if guards.len() == 1 { &["unit"] } else { &NAMES };
@@ -105,34 +98,19 @@ impl Replay {
         for guard in &mut guards {
             units.push(guard);
         }
-        let progress = if self.calls && io::stdout().is_terminal() {
-            Progress::hidden()
-        } else {
-            Progress::of_calls(session.number_of_calls())
-        };
         if self.calls {
-            let mut sheet = Sheet::begin(&mut *out)?;
-            play(&session, &mut units, &progress, |step| {
-                sheet.step(&step)?;
-                keep(step);
-                Ok(())
-            })?;
-            sheet.end()?;
+            sheet::print(&session, &mut units, keep, out)?;
         } else {
-            let mut story = Story::begin(names, out)?;
             let mut against = Against::default();
-            play(&session, &mut units, &progress, |step| {
-                story.step(&step, &progress, out)?;
+            let each = |step| {
                 against.step(&step);
                 keep(step);
-                Ok(())
-            })?;
-            story.end(&guards, out)?;
+            };
+            story::tell(&session, names, &mut units, each, out)?;
             if let Some(second) = &second {
                 against.tell(NAMES, &first, second, out)?;
             }
         }
-        drop(progress);
         if self.readout {
             for guard in &guards {
                 let trace = guard.trace().expect("its own ring is ready");
@@ -140,10 +118,7 @@ impl Replay {
             }
         }
         if let Some(plot) = plot {
-            let panels = names.iter().zip(&courses.0);
-            let panels: Vec<Panel> =
-                panels.map(|(title, events)| Panel { title, events }).collect();
-            plot.write(picture::svg(&panels, session.end()).as_bytes())?;
+            plot.write(courses.drawn(names, session.end()).as_bytes())?;
         }
         Ok(())
     }

@@ -1,10 +1,12 @@
 //! The calls of a session as lines of CSV.
 
-use crate::failure::Failure;
-use crate::play::Step;
-use crate::unit::Call;
+use crate::failure::{Failure, Out};
+use crate::play::{play, Step};
+use crate::progress::Progress;
+use crate::session::Session;
+use crate::unit::{Call, Unit};
 use serde::{Serialize, Serializer};
-use std::io;
+use std::io::{self, IsTerminal};
 
 const HEAD: [&str; 8] =
     ["clock", "call", "byte", "answer", "reply", "channel", "width_us", "current_ma"];
@@ -30,18 +32,40 @@ impl Serialize for Hex {
     }
 }
 
-pub struct Sheet<W: io::Write>(csv::Writer<W>);
+/// Plays a session on the first of the units, and prints a line for each call. Each step is handed
+/// on.
+pub fn print(
+    session: &Session,
+    units: &mut [&mut dyn Unit],
+    mut each: impl FnMut(Step),
+    out: Out,
+) -> Result<(), Failure> {
+    let progress = if io::stdout().is_terminal() {
+        Progress::hidden()
+    } else {
+        Progress::of_calls(session.number_of_calls())
+    };
+    let mut sheet = Sheet::begin(out)?;
+    play(session, units, &progress, |step| {
+        sheet.step(&step)?;
+        each(step);
+        Ok(())
+    })?;
+    sheet.end()
+}
+
+struct Sheet<W: io::Write>(csv::Writer<W>);
 
 impl<W: io::Write> Sheet<W> {
-    pub fn begin(out: W) -> Result<Sheet<W>, Failure> {
+    fn begin(out: W) -> Result<Sheet<W>, Failure> {
         let mut lines = csv::WriterBuilder::new().has_headers(false).from_writer(out);
         lines.write_record(HEAD).map_err(cannot_print)?;
         Ok(Sheet(lines))
     }
 
-    /// The line of the first unit's call. No call releases two pulses: a slot of module A is a
+    /// The line of a call. No call releases two pulses: a slot of module A is a
     /// multiple of 5, one of B is 1 more, and t2 is a multiple of 5.
-    pub fn step(&mut self, step: &Step) -> Result<(), Failure> {
+    fn step(&mut self, step: &Step) -> Result<(), Failure> {
         let told = step.of[0].told;
         let (call, byte) = match step.call {
             Call::Byte(byte) => ("byte", Some(Hex(byte))),
@@ -61,7 +85,7 @@ impl<W: io::Write> Sheet<W> {
         self.0.serialize(line).map_err(cannot_print)
     }
 
-    pub fn end(mut self) -> Result<(), Failure> {
+    fn end(mut self) -> Result<(), Failure> {
         Ok(self.0.flush()?)
     }
 }

@@ -53,7 +53,7 @@ Pulses that only the first releases: 3
 Pulses that only the second releases: 0
 
 No limit of the second is looser: demand 3 promises both of these.
-- Each pulse of the second the first releases too, same clock, channel, width, current:
+- Each pulse of the second is released by the first too, same clock, channel, width, current:
   held (4 pulses)
 - From the start, or from a call by which the second leaves the tripped state, until just
   before it next trips, all answers and pulses are equal:
@@ -78,7 +78,7 @@ fn a_looser_unit_is_promised_nothing() {
     let expected = "\
 A limit of the second is looser: the largest current of channel 3 is 127, the other's 25.
 So demand 3 promises neither of these.
-- Each pulse of the second the first releases too, same clock, channel, width, current:
+- Each pulse of the second is released by the first too, same clock, channel, width, current:
   NOT HELD, first at clock 145
 - From the start, or from a call by which the second leaves the tripped state, until just
   before it next trips, all answers and pulses are equal:
