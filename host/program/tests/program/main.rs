@@ -7,7 +7,6 @@ mod run;
 #[path = "../../../tests/shared/seeded.rs"]
 mod seeded;
 mod told;
-mod written;
 
 mod bad_sessions;
 mod beside;

@@ -1,7 +1,7 @@
 //! Ring readouts, record by record.
 
+use crate::folder::Folder;
 use crate::run::{printed, prints};
-use crate::written::written;
 
 const HEAD: &str = "  at       clock           ms  record";
 
@@ -66,15 +66,17 @@ fn fields_out_of_their_range() {
 fn a_file() {
     let text = "# case 13\n 0264 00 00 00\t01 C800 28 # a pulse\r\n\n#\n\
                 0273000000032c011e 02 91 00 00 00 03 2C 01 1E";
-    let file = written("case_13.trace", text.as_bytes());
-    assert_eq!(printed(&format!("trace {file}")), printed(&format!("trace {CASE_13}")));
+    let folder = Folder::new("a_file").with("case_13.trace", text);
+    assert_eq!(folder.line("trace case_13.trace").out, printed(&format!("trace {CASE_13}")));
 }
 
 #[test]
 fn an_empty_readout() {
+    let folder = Folder::new("an_empty_readout");
     for text in ["", "\n \n", "# 03\n#"] {
-        let file = written("empty.trace", text.as_bytes());
-        prints(&format!("trace {file}"), &["no records"]);
+        folder.put("empty.trace", text);
+        let ran = folder.line("trace empty.trace");
+        assert_eq!((ran.status, ran.out.as_str()), (0, "no records\n"), "{text:?}");
     }
 }
 

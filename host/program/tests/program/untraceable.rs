@@ -1,8 +1,8 @@
 //! Words and files that are no readout.
 
+use crate::folder::Folder;
 use crate::random;
 use crate::run::{self, bad};
-use crate::written::written;
 use rand::Rng;
 use yarrowbell::calls::ring_ready;
 use yarrowbell::raw::{Part, Ring};
@@ -37,28 +37,28 @@ fn bytes_that_are_no_records() {
 }
 
 #[test]
-fn a_file_of_no_records() {
-    let file = written("unknown.trace", b"# two\n0300000000\n01\n 04 00");
-    bad(&format!("trace {file}"), &format!("{file}:4: {}", unknown(6, "04")));
-    let file = written("cut.trace", b"030000000001\n03\n00");
-    bad(&format!("trace {file}"), &format!("{file}:2: {}", cut(6, "03", 6, 2)));
-    let file = written("long.trace", "030000000001\n".repeat(683).as_bytes());
+fn files_of_no_records() {
     let most = "a ring has at most 4096";
-    bad(&format!("trace {file}"), &format!("{file}: 4098 bytes cannot be a readout: {most}"));
+    let folder = Folder::new("files_of_no_records")
+        .with("unknown", "# two\n0300000000\n01\n 04 00")
+        .with("cut", "030000000001\n03\n00")
+        .with("long", "030000000001\n".repeat(683));
+    folder.refuses("trace unknown", &format!("unknown:4: {}", unknown(6, "04")));
+    folder.refuses("trace cut", &format!("cut:2: {}", cut(6, "03", 6, 2)));
+    folder.refuses("trace long", &format!("long: 4098 bytes cannot be a readout: {most}"));
 }
 
 #[test]
-fn a_file_that_is_not_hex() {
-    let file = written("not_hex.trace", b"03 00\n00 0x");
-    bad(&format!("trace {file}"), &format!("{file}:2: 'x' is not a hex digit"));
-    let file = written("odd.trace", b"03 00 # 0\n\n000");
+fn files_that_are_not_hex() {
     let odd = "\"000\" has an odd number of hex digits, and a byte has two";
-    bad(&format!("trace {file}"), &format!("{file}:3: {odd}"));
-    let file = written("not_text.trace", b"03 00\n\xFF");
-    bad(&format!("trace {file}"), &format!("{file}:2: not UTF-8, and so no text"));
-    let directory = env!("CARGO_TARGET_TMPDIR");
-    let message = format!("{directory}: Is a directory (os error 21)");
-    bad(&format!("trace {directory}"), &message);
+    let folder = Folder::new("files_that_are_not_hex")
+        .with("letters", "03 00\n00 0x")
+        .with("odd", "03 00 # 0\n\n000")
+        .with("latin1", b"03 00\n\xFF");
+    folder.refuses("trace letters", "letters:2: 'x' is not a hex digit");
+    folder.refuses("trace odd", &format!("odd:3: {odd}"));
+    folder.refuses("trace latin1", "latin1:2: not UTF-8, and so no text");
+    folder.refuses("trace .", ".: Is a directory (os error 21)");
 }
 
 #[test]
