@@ -4,14 +4,13 @@ use super::axis::{Time, LEFT};
 use super::ink::{self, filled, Area, Drawn};
 use super::labels::{Labels, LEVEL};
 use super::thinning::apart;
+use super::Panel;
 use crate::course::{Event, What};
 use crate::words;
 use plotters::prelude::{Circle, Cross, Polygon, Text};
 use plotters::style::text_anchor::{HPos, VPos};
 use plotters::style::Color;
 use yarrowbell::Answer;
-
-pub const HEIGHT: u32 = (LEVELS * LEVEL + 4 * ROW) as u32;
 
 const LEVELS: i32 = 4;
 const ROW: i32 = 14;
@@ -38,17 +37,6 @@ impl Mark {
         }
     }
 
-    /// The middle of the row that it stands in.
-    fn row(self) -> i32 {
-        let above = match self {
-            Mark::Done => 0,
-            Mark::Refused => 1,
-            Mark::Stray => 2,
-            Mark::Dropped => 3,
-        };
-        LEVELS * LEVEL + above * ROW + ROW / 2
-    }
-
     fn name(self) -> &'static str {
         match self {
             Mark::Done => "carried out",
@@ -72,47 +60,67 @@ impl Mark {
     }
 }
 
-/// Hands back whether some marks were left out.
-pub fn draw(area: &Area, events: &[Event], time: &Time) -> Result<bool, ink::Failed> {
-    let name = ink::text(ink::SMALL, HPos::Right, VPos::Center);
-    draw_labels(area, events, time)?;
-    let mut left_out = false;
-    for mark in [Mark::Done, Mark::Refused, Mark::Stray, Mark::Dropped] {
-        area.draw(&Text::new(mark.name(), (LEFT - 10, mark.row()), name.clone()))?;
-        let all = events.iter().filter(|event| Mark::of(&event.what) == Some(mark));
-        let kept = apart(all.clone().map(|event| (time.column(event.clock), event)), APART);
-        left_out |= kept.len() < all.count();
-        for (column, _) in kept {
-            mark.draw(area, (column, mark.row()))?;
-        }
-    }
-    Ok(left_out)
-}
+/// The kinds of marks that a picture has, each in its row, the same in all its panels.
+pub struct Rows(Vec<Mark>);
 
-/// A label is the command's name and its answer's number. Where not all have room the refusals come
-/// first: they are fewer, and more is to be seen in them.
-fn draw_labels(area: &Area, events: &[Event], time: &Time) -> Drawn {
-    let all: Vec<(Mark, String, i32)> = events
-        .iter()
-        .filter_map(|event| match &event.what {
-            What::Decided { bytes, answer, .. } => {
-                let words = format!("{} {}", words::name(bytes[0]), answer.number());
-                Mark::of(&event.what).map(|mark| (mark, words, time.column(event.clock)))
-            }
-            _ => None,
-        })
-        .collect();
-    let place = |labels: &mut Labels, (mark, words, column): &(Mark, String, i32)| {
-        labels.place(words.clone(), (*column, mark.row()))
-    };
-    let mut labels = Labels::new(LEVELS);
-    if !all.iter().rev().all(|one| place(&mut labels, one)) {
-        labels = Labels::new(LEVELS);
-        for mark in [Mark::Refused, Mark::Done] {
-            for one in all.iter().rev().filter(|one| one.0 == mark) {
-                place(&mut labels, one);
+impl Rows {
+    pub fn of(panels: &[Panel]) -> Rows {
+        let marks = panels.iter().flat_map(|panel| panel.events);
+        let marks: Vec<Mark> = marks.filter_map(|event| Mark::of(&event.what)).collect();
+        let all = [Mark::Done, Mark::Refused, Mark::Stray, Mark::Dropped];
+        Rows(all.into_iter().filter(|mark| marks.contains(mark)).collect())
+    }
+
+    pub fn height(&self) -> u32 {
+        (LEVELS * LEVEL + self.0.len() as i32 * ROW) as u32
+    }
+
+    /// The rows with their middles.
+    fn middles(&self) -> impl Iterator<Item = (Mark, i32)> + '_ {
+        let middles = (LEVELS * LEVEL + ROW / 2..).step_by(ROW as usize);
+        self.0.iter().copied().zip(middles)
+    }
+
+    /// Hands back whether some marks were left out.
+    pub fn draw(&self, area: &Area, events: &[Event], time: &Time) -> Result<bool, ink::Failed> {
+        let name = ink::text(ink::SMALL, HPos::Right, VPos::Center);
+        self.draw_labels(area, events, time)?;
+        let mut left_out = false;
+        for (mark, middle) in self.middles() {
+            area.draw(&Text::new(mark.name(), (LEFT - 10, middle), name.clone()))?;
+            let all = events.iter().filter(|event| Mark::of(&event.what) == Some(mark));
+            let kept = apart(all.clone().map(|event| (time.column(event.clock), event)), APART);
+            left_out |= kept.len() < all.count();
+            for (column, _) in kept {
+                mark.draw(area, (column, middle))?;
             }
         }
+        Ok(left_out)
     }
-    labels.draw(area, ink::BLACK, ink::RULE)
+
+    /// A label is the command's name and its answer's number. Where not all have room the refusals
+    /// come first: they are fewer, and more is to be seen in them.
+    fn draw_labels(&self, area: &Area, events: &[Event], time: &Time) -> Drawn {
+        let place = |labels: &mut Labels, mark: Mark, event: &Event| match &event.what {
+            What::Decided { bytes, answer, .. } if Mark::of(&event.what) == Some(mark) => {
+                let words = format!("{} {}", words::name(bytes[0]), answer.number());
+                let row = self.middles().find(|(row, _)| *row == mark);
+                let foot = row.map_or(0, |(_, middle)| middle);
+                labels.place(words, (time.column(event.clock), foot))
+            }
+            _ => true,
+        };
+        let either = [Mark::Refused, Mark::Done];
+        let mut labels = Labels::new(LEVELS);
+        let mut last_first = events.iter().rev();
+        if !last_first.all(|event| either.iter().all(|mark| place(&mut labels, *mark, event))) {
+            labels = Labels::new(LEVELS);
+            for mark in either {
+                for event in events.iter().rev() {
+                    place(&mut labels, mark, event);
+                }
+            }
+        }
+        labels.draw(area, ink::BLACK, ink::RULE)
+    }
 }

@@ -15,7 +15,7 @@ pub const HEIGHT: u32 = CHANNELS as u32 * (BAR + ABOVE + 1) as u32;
 const CHANNELS: u8 = 8;
 
 /// The height of a full bar, the space above it, and how broad a bar is at most.
-const BAR: i32 = 38;
+const BAR: i32 = 46;
 const ABOVE: i32 = 6;
 const BROADEST: i32 = 6;
 

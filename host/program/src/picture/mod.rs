@@ -15,8 +15,10 @@ mod trips;
 
 use crate::course::Event;
 use axis::Time;
+use commands::Rows;
 use ink::{Area, Drawn};
 use lanes::Lanes;
+use panel::Common;
 use plotters::prelude::{IntoDrawingArea, SVGBackend, WHITE};
 
 const WIDTH: u32 = 1200;
@@ -30,23 +32,23 @@ pub struct Panel<'a> {
 
 /// The panels one above the other, from clock 0 to the end, which is the same for all.
 pub fn svg(panels: &[Panel], end: u32) -> String {
-    let height = TOP + panels.len() as u32 * panel::HEIGHT + legend::HEIGHT;
+    let time = Time::until(end);
+    let lanes: Vec<Lanes> = panels.iter().map(|panel| Lanes::of(panel.events, &time)).collect();
+    let common = Common { time, rows: Rows::of(panels), breadth: lanes::breadth(&lanes) };
+    let height = TOP + panels.len() as u32 * common.height() + legend::HEIGHT;
     let mut text = String::new();
     let area = SVGBackend::with_string(&mut text, (WIDTH, height)).into_drawing_area();
-    draw(&area, panels, end).expect("a string takes all that is drawn");
+    draw(&area, panels, &lanes, &common).expect("a string takes all that is drawn");
     drop(area);
     text
 }
 
-fn draw(area: &Area, panels: &[Panel], end: u32) -> Drawn {
+fn draw(area: &Area, panels: &[Panel], lanes: &[Lanes], common: &Common) -> Drawn {
     area.fill(&WHITE)?;
-    let time = Time::until(end);
-    let lanes: Vec<Lanes> = panels.iter().map(|panel| Lanes::of(panel.events, &time)).collect();
-    let breadth = lanes::breadth(&lanes);
     let (_, mut rest) = area.split_vertically(TOP);
-    for (panel, lanes) in panels.iter().zip(&lanes) {
-        let (top, below) = rest.split_vertically(panel::HEIGHT);
-        panel::draw(&top, panel, lanes, breadth, &time)?;
+    for (panel, lanes) in panels.iter().zip(lanes) {
+        let (top, below) = rest.split_vertically(common.height());
+        panel::draw(&top, panel, lanes, common)?;
         rest = below;
     }
     legend::draw(&rest)?;

@@ -2,20 +2,35 @@
 
 use super::axis::{self, Time, RIGHT};
 use super::bands::{self, Bands};
+use super::commands::{self, Rows};
 use super::ink::{self, Area, Drawn};
 use super::lanes::{self, Lanes};
-use super::{commands, trips, Panel};
+use super::{trips, Panel};
 use plotters::prelude::{FontStyle, Text};
 use plotters::style::text_anchor::{HPos, Pos, VPos};
-
-pub const HEIGHT: u32 = TITLE + commands::HEIGHT + BODY + axis::HEIGHT + 10;
 
 const TITLE: u32 = 26;
 const BODY: u32 = trips::HEIGHT + bands::HEIGHT + lanes::HEIGHT;
 
-pub fn draw(area: &Area, panel: &Panel, lanes: &Lanes, breadth: i32, time: &Time) -> Drawn {
+/// What all panels of a picture have in common.
+pub struct Common {
+    pub time: Time,
+    pub rows: Rows,
+    /// How broad a bar is.
+    pub breadth: i32,
+}
+
+impl Common {
+    /// The height of a panel.
+    pub fn height(&self) -> u32 {
+        TITLE + self.rows.height() + BODY + axis::HEIGHT + 10
+    }
+}
+
+pub fn draw(area: &Area, panel: &Panel, lanes: &Lanes, common: &Common) -> Drawn {
+    let Common { time, rows, breadth } = common;
     let (title, rest) = area.split_vertically(TITLE);
-    let (marks, rest) = rest.split_vertically(commands::HEIGHT);
+    let (marks, rest) = rest.split_vertically(rows.height());
     let (body, foot) = rest.split_vertically(BODY);
     let (_, below) = body.split_vertically(trips::HEIGHT);
     let (strip, plot) = below.split_vertically(bands::HEIGHT);
@@ -24,10 +39,10 @@ pub fn draw(area: &Area, panel: &Panel, lanes: &Lanes, breadth: i32, time: &Time
     bands.draw_strip(&strip)?;
     bands.draw_shades(&plot)?;
     time.draw_grid(&plot)?;
-    lanes.draw(&plot, breadth)?;
+    lanes.draw(&plot, *breadth)?;
     time.draw_axis(&foot)?;
     let fewer_trips = trips::draw(&body, panel.events, time)?;
-    let fewer_marks = commands::draw(&marks, panel.events, time)?;
+    let fewer_marks = rows.draw(&marks, panel.events, time)?;
     draw_title(&title, panel.title)?;
     draw_note(&title, lanes.left_out, fewer_marks, fewer_trips)
 }
