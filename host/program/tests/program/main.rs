@@ -18,6 +18,7 @@ mod misspelt;
 mod pages;
 mod papers;
 mod pipes;
+mod plots;
 mod readings;
 mod refusals;
 mod round_trips;
