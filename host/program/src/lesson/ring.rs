@@ -7,7 +7,7 @@ use crate::failure::{Failure, Out};
 use crate::unit::{Call, Unit};
 use crate::{hex, story};
 use yarrowbell::raw::Part;
-use yarrowbell::{calls, Guard, Profile, Told};
+use yarrowbell::{calls, Answer, Guard, Profile, Told};
 
 const PAGE: Page = Page {
     title: "ring",
@@ -67,20 +67,20 @@ type Memory = [u8; 40];
 struct InMemory<K> {
     guard: Guard,
     memory: Memory,
-    /// Keeps in the memory what came of a call, the new records by their bytes.
+    /// Keeps in the memory what came of a call: the answer, and the new records by their bytes.
     keep: K,
     /// The memory as it was at some clocks.
     seen: Vec<(u32, Memory)>,
 }
 
-impl<K: FnMut(Call, &[u8], &mut Memory)> InMemory<K> {
+impl<K: FnMut(Call, Answer, &[u8], &mut Memory)> InMemory<K> {
     fn new(keep: K) -> InMemory<K> {
         let guard = Guard::new(Profile::LOOSEST, 4096).expect("profile and capacity are good");
         InMemory { guard, memory: [0; 40], keep, seen: Vec::new() }
     }
 }
 
-impl<K: FnMut(Call, &[u8], &mut Memory)> Unit for InMemory<K> {
+impl<K: FnMut(Call, Answer, &[u8], &mut Memory)> Unit for InMemory<K> {
     fn reaches(&self, call: Call) -> Call {
         match call {
             Call::Byte(_) if self.guard.clock() == TAKEN => Call::Byte(self.memory[BESIDE]),
@@ -92,7 +92,7 @@ impl<K: FnMut(Call, &[u8], &mut Memory)> Unit for InMemory<K> {
         let before = self.guard.record().ring.used;
         let told = self.guard.call(call);
         let trace = self.guard.trace().expect("its own ring is ready");
-        (self.keep)(call, &trace[before..], &mut self.memory);
+        (self.keep)(call, told.answer, &trace[before..], &mut self.memory);
         if call == Call::Tick {
             let clock = self.guard.clock();
             if clock == COMES {
@@ -113,17 +113,18 @@ impl<K: FnMut(Call, &[u8], &mut Memory)> Unit for InMemory<K> {
 pub fn teach(out: Out) -> Result<Drawn, Failure> {
     let session = PAGE.begin(out)?;
     let mut written = 0;
-    let mut wrong = InMemory::new(|_, record: &[u8], memory: &mut Memory| {
+    let mut wrong = InMemory::new(|_, _, record: &[u8], memory: &mut Memory| {
         wrong::ring::push(memory, written, record);
         written += record.len();
     });
     // The same calls, on a proved box that is lent this memory.
     let mut lent = calls::make(Profile::LOOSEST, RING.size).made;
-    let mut proved = InMemory::new(|call, _: &[u8], memory: &mut Memory| {
-        match call {
+    let mut proved = InMemory::new(|call, answer: Answer, _: &[u8], memory: &mut Memory| {
+        let said = match call {
             Call::Byte(byte) => calls::byte_in_place(&mut lent, memory, RING, byte),
             Call::Tick => calls::tick_in_place(&mut lent, memory, RING),
         };
+        assert_eq!(said.answer, answer.number(), "the ring's size changes no answer");
     });
     let mut courses = Courses::of(2);
     let units: &mut [&mut dyn Unit] = &mut [&mut wrong, &mut proved];
