@@ -60,7 +60,8 @@ impl Against {
         writeln!(out)?;
         match second.looser_than(first) {
             None => {
-                writeln!(out, "No limit of {other} is looser: demand 3 promises both of these.")?
+                write!(out, "No limit of {other} is looser: ")?;
+                writeln!(out, "of proved units demand 3 promises both of these.")?;
             }
             Some(looser) => {
                 writeln!(out, "A limit of {other} is looser: {looser}.")?;

@@ -3,6 +3,7 @@
 use crate::folder::Folder;
 use crate::independently::{played, text, toml, Call};
 use crate::seeded::seeded;
+use independent::plain::machine::Pulse;
 use soak::sessions;
 
 /// A strict unit that trips, is restarted and rejoins the lax one. Each Update but the first has 30
@@ -52,7 +53,7 @@ Pulses that only the first releases: 3
   clock 215: channel 3, 300 µs, 30 mA
 Pulses that only the second releases: 0
 
-No limit of the second is looser: demand 3 promises both of these.
+No limit of the second is looser: of proved units demand 3 promises both of these.
 - Each pulse of the second is released by the first too, same clock, channel, width, current:
   held (4 pulses)
 - From the start, or from a call by which the second leaves the tripped state, until just
@@ -88,32 +89,77 @@ So demand 3 promises neither of these.
     assert_eq!(ran.status, 0);
 }
 
-/// What the report says of random sessions is so by the independent machine.
+/// The whole report on random sessions is what the independent machine makes it, whichever of the
+/// two profiles is the tighter.
 #[test]
 fn random_pairs() {
     let folder = Folder::new("random_pairs");
-    let mut apart = 0;
+    let [mut apart, mut broken] = [0, 0];
     seeded(1_000..1_300, |rng| {
         let session = sessions::session(rng);
         let tighter = sessions::tighter(rng, session.profile);
         folder.put("s", text(&session, true));
-        folder.put("p.toml", toml(&session.profile));
-        folder.put("q.toml", toml(&tighter));
-        let line = format!("replay s --capacity {} --profile p.toml ", session.capacity);
-        let ran = folder.line(&(line + "--against q.toml"));
-        let has = |line: &str| assert!(ran.out.lines().any(|is| is.starts_with(line)), "{line}");
+        folder.put("lax.toml", toml(&session.profile));
+        folder.put("strict.toml", toml(&tighter));
         let [lax, strict] = [session.profile, tighter].map(|profile| played(&session, profile).0);
-        let differ =
-            lax.iter().zip(&strict).filter(|(lax, strict)| lax.said != strict.said).count();
-        has(&format!("Calls in which answers or pulses differ: {differ}"));
-        let pulses = |calls: &[Call]| calls.iter().filter_map(Call::pulse).count();
-        let alone = pulses(&lax) - pulses(&strict);
-        has(&format!("Pulses that only the first releases: {alone}"));
-        has("Pulses that only the second releases: 0");
-        has("No limit of the second is looser: demand 3 promises both of these.");
-        has(&format!("  held ({} pulses)", pulses(&strict)));
-        assert!(!ran.out.contains("NOT HELD"));
-        apart += usize::from(alone > 0);
+        let report = |first: &str, second: &str| {
+            let line = format!("replay s --capacity {} --profile {first} ", session.capacity);
+            let ran = folder.line(&(line + "--against " + second));
+            assert_eq!((ran.status, ran.err.as_str()), (0, ""));
+            ran.out
+        };
+        let tight = expected(&lax, &strict);
+        assert!(!tight.contains("NOT HELD"), "{tight}");
+        let promise = "No limit of the second is looser";
+        assert_eq!(without_promise(&report("lax.toml", "strict.toml"), promise), tight);
+        let promise = if tighter == session.profile { promise } else { "A limit of the second" };
+        let loose = expected(&strict, &lax);
+        assert_eq!(without_promise(&report("strict.toml", "lax.toml"), promise), loose);
+        apart += usize::from(!tight.contains("the first releases: 0\n"));
+        broken += usize::from(loose.contains("NOT HELD"));
     });
-    assert!(apart > 50, "{apart} pairs with pulses apart show little");
+    assert!(apart > 50 && broken > 50, "{apart} pairs apart and {broken} broken show little");
+}
+
+/// The report behind the story, but for what it says of the profiles, which begins so.
+fn without_promise(out: &str, promise: &str) -> String {
+    let from = out.find("Calls in which answers or pulses differ: ").expect("a report");
+    let (seen, judged) = out[from..].split_once("\n\n").expect("two parts");
+    assert!(judged.starts_with(promise), "{judged}");
+    let sentences = judged.find("- Each pulse").expect("demand 3's sentences");
+    format!("{seen}\n{}", &judged[sentences..])
+}
+
+fn expected(first: &[Call], second: &[Call]) -> String {
+    let both = || first.iter().zip(second);
+    let differ: Vec<(u32, bool)> = both()
+        .filter(|(one, other)| one.said != other.said)
+        .map(|(one, other)| (one.clock, other.tripped))
+        .collect();
+    let mut report = format!("Calls in which answers or pulses differ: {}", differ.len());
+    if let (Some((from, _)), Some((to, _))) = (differ.first(), differ.last()) {
+        report += &format!(" (clock {from} to {to})");
+    }
+    let alone = |one: &Call, other: &Call| one.pulse().filter(|_| one.pulse() != other.pulse());
+    let only_first: Vec<Pulse> = both().filter_map(|(one, other)| alone(one, other)).collect();
+    let only_second: Vec<Pulse> = both().filter_map(|(one, other)| alone(other, one)).collect();
+    for (name, pulses) in [("first", &only_first), ("second", &only_second)] {
+        report += &format!("\nPulses that only the {name} releases: {}", pulses.len());
+        for Pulse { clock, channel, width, current } in pulses {
+            report += &format!("\n  clock {clock}: channel {channel}, {width} µs, {current} mA");
+        }
+    }
+    let held = |broken: Option<u32>, count: usize, of: &str| match broken {
+        None => format!("  held ({count} {of})\n"),
+        Some(clock) => format!("  NOT HELD, first at clock {clock}\n"),
+    };
+    let pulses = second.iter().filter_map(Call::pulse).count();
+    let together = second.iter().filter(|call| !call.tripped).count();
+    let unequal = differ.iter().find(|(_, tripped)| !tripped).map(|(clock, _)| *clock);
+    report += "\n- Each pulse of the second is released by the first too, same clock, channel, ";
+    report += "width, current:\n";
+    report += &held(only_second.first().map(|pulse| pulse.clock), pulses, "pulses");
+    report += "- From the start, or from a call by which the second leaves the tripped state, ";
+    report += "until just\n  before it next trips, all answers and pulses are equal:\n";
+    report + &held(unequal, together, "calls")
 }

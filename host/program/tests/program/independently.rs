@@ -5,6 +5,9 @@ use independent::Part;
 use soak::sessions::{self, Session};
 use yarrowbell::Profile;
 
+/// The number of the tripped state.
+const TRIPPED: u8 = 2;
+
 /// The session file, with the bytes of one clock in one line or each in its own.
 pub fn text(session: &Session, together: bool) -> String {
     let mut lines: Vec<String> = Vec::new();
@@ -29,11 +32,13 @@ pub fn toml(profile: &Profile) -> String {
     )
 }
 
-/// A call: the clock after it, the byte if it is one, and what is said to it.
+/// A call: the clock after it, the byte if it is one, what is said to it, and whether it leaves the
+/// box tripped.
 pub struct Call {
     pub clock: u32,
     pub byte: Option<u8>,
     pub said: Said,
+    pub tripped: bool,
 }
 
 impl Call {
@@ -57,13 +62,14 @@ pub fn played(session: &Session, profile: Profile) -> (Vec<Call>, Vec<u8>) {
     loop {
         while let Some(&(clock, byte)) = sent.next_if(|(clock, _)| *clock == unit.clock) {
             let said = unit.byte(&mut ring, at, byte);
-            calls.push(Call { clock, byte: Some(byte), said });
+            calls.push(Call { clock, byte: Some(byte), said, tripped: unit.state == TRIPPED });
         }
         if unit.clock == session.end {
             break;
         }
         let said = unit.tick(&mut ring, at);
-        calls.push(Call { clock: unit.clock, byte: None, said });
+        let tripped = unit.state == TRIPPED;
+        calls.push(Call { clock: unit.clock, byte: None, said, tripped });
     }
     let mut out = vec![0; session.capacity];
     let used = unit.read_out(&ring, at, &mut out).expect("it has room");

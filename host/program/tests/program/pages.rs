@@ -28,7 +28,7 @@ fn the_picture() {
 }
 
 /// A line `$ cat FILE` is followed by the file, which is written here. A line `$ yarrowbell ..` is
-/// followed by lines that the program prints in this order; `...` stands for others between them.
+/// followed by what the program prints.
 fn examples_are_real(name: &str, least: usize) {
     let folder = Folder::new(name);
     let text = page(name);
@@ -67,12 +67,25 @@ fn examples(text: &str) -> Vec<(&str, Vec<&str>)> {
     examples
 }
 
+/// The program prints these lines one after the other, empty ones left out on both sides. Where `...`
+/// stands it prints others, and behind the last line it may.
 fn printed(folder: &Folder, words: &str, lines: &[&str]) {
     let ran = folder.line(words);
     assert_eq!((ran.status, ran.err.as_str()), (0, ""), "{words}");
     let same = |one: &str, other: &str| one.split_whitespace().eq(other.split_whitespace());
-    let mut rest = ran.out.lines();
-    for line in lines.iter().filter(|line| **line != "...") {
-        assert!(rest.any(|other| same(line, other)), "{words}: {line:?} is not in\n{}", ran.out);
+    let mut rest = ran.out.lines().filter(|line| !line.is_empty());
+    let mut others = false;
+    for line in lines {
+        if *line == "..." {
+            others = true;
+            continue;
+        }
+        let found = if others {
+            rest.any(|other| same(line, other))
+        } else {
+            rest.next().is_some_and(|other| same(line, other))
+        };
+        assert!(found, "{words}: {line:?} does not stand so in\n{}", ran.out);
+        others = false;
     }
 }
