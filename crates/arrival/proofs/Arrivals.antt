@@ -1,29 +1,34 @@
 -- What each kind of byte comes to on a good box. Assumes nothing.
 use Prim.Native.Nat.{ℕ, _+_, _*_, _≤_, _<_}
 use mathlib.Core.Bool.{Bool, true, false, cond}
+use mathlib.Core.Logic.{_⊎_, inl, inr}
 use mathlib.Core.Path.{_≡_, refl, sym, ap, _∙_}
 use mathlib.Core.List.{List, [], _∷_, _++_}
 use native.Mathlib.Omega.{arith}
 use lib.Dec.{eqb}
 use lib.ListN.{length, take, length-append}
 use lib.Seq.{length-take-le}
-use borrow.Author.Tests.{eq-eqb, ne-eqb}
+use borrow.Author.Tests.{eq-eqb, ne-eqb, le-leb, lt-leb}
 use Rattle.frames.specs.Layout.{identIn}
 use Rattle.model.specs.declared.Core.{Core}
 use Rattle.model.specs.Channels.{channels}
-use Rattle.model.specs.State.{Partial, isRunning}
+use Rattle.model.specs.State.{Partial, byState, isRunning}
 use Rattle.model.specs.Effects.{Done}
 use Rattle.model.specs.Good.{goodPartial}
 use Rattle.model.specs.Arrival.{Arrival.stray, Arrival.alone, Arrival.growing, Arrival.whole, lengthened, openedUpdate, opened, followed, decided, judged, taken}
 use Rattle.record.specs.declared.Box.{Box}
-use Rattle.record.specs.declared.PartialFrame.{PartialFrame}
-use Rattle.record.specs.Box.{partialOf, stateOf, frameOf, boxOf, goodBox}
-use Rattle.record.proofs.Facts.{box-facts, OpenFrame, open-facts, size-most}
-use Rattle.record.proofs.States.{not-running}
-use Rattle.record.proofs.Carries.{frame-back, back}
-use Rattle.machine.specs.Said.{pulseOf, saidOf}
-use Rattle.machine.specs.Step.{refused, carried}
-use Rattle.effects.specs.Deciding.{decideFrame, given, Whole}
+use Rattle.partial.specs.declared.PartialFrame.{PartialFrame}
+use Rattle.partial.specs.Partial.{partialOf, frameOf}
+use Rattle.record.specs.Box.{stateOf, boxOf, goodBox}
+use Rattle.partial.proofs.Facts.{OpenFrame, open-facts, size-most}
+use Rattle.record.proofs.Facts.{box-facts}
+use Rattle.model.proofs.States.{not-running, tripped-is}
+use Rattle.partial.proofs.Carries.{frame-back}
+use Rattle.record.proofs.Carries.{back}
+use Rattle.said.specs.Said.{pulseOf, saidOf}
+use Rattle.outcome.specs.Step.{refused, carried}
+use Rattle.decided.specs.Given.{given}
+use Rattle.effects.specs.Deciding.{decideFrame, Whole}
 use Rattle.effects.proofs.Judged.{whole-decided}
 use Rattle.arrival.specs.Arriving.{grown, unfinished, settled}
 use Rattle.arrival.proofs.Growing.{grown-frame, used-by, len-by}
@@ -41,6 +46,12 @@ pub whole-settled : (b : Box) (s : List ℕ) → Whole s
     → settled b (given (decideFrame (b .profile) (b .clock) (b .core) s)) ≡ carried b (taken (b .profile) (stateOf b) (whole s))
 unfolding judged taken stateOf
 whole-settled b s w = rw (whole-decided (b .profile) (b .clock) (b .core) s w) (settled-as b _ _ _)
+
+-- an Update's first byte alone: 10 when tripped, else 6
+pub alone-answer : {A B : Type 0} (k answer : ℕ) → A ⊎ B → (A → (2 ≤ k) × (answer ≡ 10)) → (B → (k < 2) × (answer ≡ 6))
+    → answer ≡ cond (byState k false false true) 10 6
+alone-answer k answer (inl a) f g = rw (sym (tripped-is k) ∙ le-leb 2 k (f a .0)) (f a .1)
+alone-answer k answer (inr b) f g = rw (sym (tripped-is k) ∙ lt-leb 2 k (g b .0)) (g b .1)
 
 -- 1: the byte is kept
 pub kept-as : (b : Box) (q : Partial) → unfinished b (frameOf q) ≡ carried b (taken (b .profile) (stateOf b) (growing q))

@@ -6,8 +6,8 @@ use native.Mathlib.Omega.{arith}
 use lib.ListN.{length, take, replicate, set, length-append}
 use lib.Seq.{set-at, take-at}
 use Rattle.model.specs.State.{Partial}
-use Rattle.record.specs.declared.PartialFrame.{PartialFrame}
-use Rattle.record.specs.Box.{filled, frameOf}
+use Rattle.partial.specs.declared.PartialFrame.{PartialFrame}
+use Rattle.partial.specs.Partial.{filled, frameOf}
 use Rattle.arrival.specs.Arriving.{grown}
 
 -- the byte behind those in use

@@ -19,7 +19,7 @@ use Rattle.model.specs.State.{byState}
 use Rattle.model.specs.Good.{allLow, goodSize}
 use Rattle.model.proofs.Tests.{either-way}
 use Rattle.model.proofs.Partials.{low-append}
-use Rattle.record.proofs.Facts.{OpenFrame, low-no-high, size-most}
+use Rattle.partial.proofs.Facts.{OpenFrame, low-no-high, size-most}
 use Rattle.effects.specs.Deciding.{toldCount, Whole}
 
 -- a high byte, low ones behind it, and so many bytes as its frame has

@@ -9,11 +9,11 @@ use Rattle.model.specs.Channels.{channels}
 use Rattle.model.specs.State.{noFrame, isRunning}
 use Rattle.model.specs.Arrival.{Arrival, Arrival.alone, Arrival.growing}
 use Rattle.record.specs.declared.Box.{Box}
-use Rattle.record.specs.declared.PartialFrame.{PartialFrame}
-use Rattle.record.specs.Box.{frameOf}
-use Rattle.machine.specs.declared.Stepped.{Stepped}
-use Rattle.machine.specs.Said.{nothing, recordsOf}
-use Rattle.effects.specs.declared.Decided.{Decided}
+use Rattle.partial.specs.declared.PartialFrame.{PartialFrame}
+use Rattle.partial.specs.Partial.{frameOf}
+use Rattle.outcome.specs.declared.Stepped.{Stepped}
+use Rattle.said.specs.Said.{nothing, recordsOf}
+use Rattle.decided.specs.declared.Decided.{Decided}
 
 -- one byte more
 abbrev pub grown : PartialFrame → ℕ → PartialFrame

@@ -2,20 +2,20 @@
 use commands::answers;
 use commands::idents;
 use commands::sizes;
-use effects::Decided;
-use machine::Stepped;
+use decided::Decided;
+use outcome::Stepped;
+use partial::PartialFrame;
 use record::Box;
-use record::PartialFrame;
 ghost use mathlib.Core.Bool.{true};
 ghost use mathlib.Core.Path.{_≡_};
 ghost use mathlib.Core.List.{[], _∷_};
 ghost use Prim.Native.Nat.{_≤_, _<_};
 ghost use lib.ListN.{take};
-ghost use Rattle.model.specs.State.{noFrame};
 ghost use Rattle.model.specs.Arrival.{taken, openedUpdate, opened, followed, Arrival.alone, Arrival.whole};
 ghost use Rattle.model.specs.Machine.{step, Call.byte};
-ghost use Rattle.record.specs.Box.{stateOf, frameOf, goodBox};
-ghost use Rattle.machine.specs.Step.{carried, stepOf};
+ghost use Rattle.partial.specs.Partial.{frameOf};
+ghost use Rattle.record.specs.Box.{stateOf, goodBox};
+ghost use Rattle.outcome.specs.Step.{carried, stepOf};
 ghost use Rattle.arrival.specs.Arriving.{grown, unfinished, settled};
 ghost use Rattle.effects.specs.Deciding.{Whole};
 
@@ -54,19 +54,9 @@ fn keep(b: Box, q: PartialFrame) -> Stepped
     let mut next = b;
     next.partial = q;
     Stepped {
-        said: machine::say(answers::UNFINISHED, 0),
-        records: machine::none(),
+        said: said::say(answers::UNFINISHED, 0),
+        records: said::none(),
         next,
-    }
-}
-
-fn no_frame() -> PartialFrame
-    ensures { λ r. ⌜ r ≡ frameOf noFrame ⌝ }
-{
-    PartialFrame {
-        bytes: [0; 25],
-        len: 0,
-        kept: 0,
     }
 }
 
@@ -74,10 +64,10 @@ fn no_frame() -> PartialFrame
 fn settle(b: Box, d: Decided) -> Stepped
     ensures { λ r. ⌜ r ≡ settled b d ⌝ }
 {
+    let q = partial::NO_FRAME;
     let said = d.said;
     let records = d.records;
     let m = d.core;
-    let q = no_frame();
     let mut next = b;
     next.core = m;
     next.partial = q;
@@ -92,17 +82,12 @@ fn settle(b: Box, d: Decided) -> Stepped
 fn alone(b: Box) -> Stepped
     ensures { λ r. ⌜ r ≡ carried b (taken (b .profile) (stateOf b) alone) ⌝ }
 {
-    let m = b.core;
-    if model::TRIPPED <= m.state {
-        return settle(
-            b,
-            effects::tell(b.clock, idents::UPDATE, answers::TRIPPED, m),
-        );
-    }
-    settle(
-        b,
-        effects::tell(b.clock, idents::UPDATE, answers::NO_LIST, m),
-    )
+    let answer = if model::TRIPPED <= b.core.state {
+        answers::TRIPPED
+    } else {
+        answers::NO_LIST
+    };
+    settle(b, decided::tell(b.clock, idents::UPDATE, answer, b.core))
 }
 
 // A whole frame is read, judged and carried out.
@@ -110,11 +95,12 @@ fn finish(b: Box, q: PartialFrame) -> Stepped
     requires { ⌜ (q .len ≤ 25) × Whole (take (q .len) (q .bytes)) ⌝ }
     ensures { λ r. ⌜ r ≡ carried b (taken (b .profile) (stateOf b) (whole (take (q .len) (q .bytes)))) ⌝ }
 {
-    let p = b.profile;
-    let m = b.core;
     let bytes = q.bytes;
     let len = q.len;
-    settle(b, effects::decide(p, b.clock, m, &bytes[..len]))
+    settle(
+        b,
+        effects::decide(b.profile, b.clock, b.core, &bytes[..len]),
+    )
 }
 
 // An Update's first byte fixes its length.
@@ -151,11 +137,10 @@ fn follow(b: Box, n: u8) -> Stepped
     requires { ⌜ (goodBox b ≡ true) × (n < 128) ⌝ }
     ensures { λ r. ⌜ r ≡ carried b (taken (b .profile) (stateOf b) (followed (stateOf b .partial) n)) ⌝ }
 {
-    let q = b.partial;
-    if q.len == 0 {
-        return machine::refuse(answers::LOW_BYTE, b);
+    if b.partial.len == 0 {
+        return outcome::refuse(answers::LOW_BYTE, b);
     }
-    let longer = grow(q, n);
+    let longer = grow(b.partial, n);
     if longer.len == longer.kept {
         return finish(b, longer);
     }
@@ -176,9 +161,9 @@ fn arrive(b: Box, n: u8) -> Stepped
 pub fn take_byte(b: Box, ring: u8, n: u8) -> Stepped
     ensures { λ r. ⌜ r ≡ stepOf b ring (byte n) ⌝ }
 {
-    let answer = machine::refusal(b, ring);
+    let answer = outcome::refusal(b, ring);
     if answer == answers::DONE {
         return arrive(b, n);
     }
-    machine::refuse(answer, b)
+    outcome::refuse(answer, b)
 }

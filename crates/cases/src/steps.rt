@@ -1,111 +1,89 @@
 // A script's steps, carried out.
-use crate::calls;
-use crate::kinds;
-use crate::kinds::Asked;
+use crate::box_calls;
+use crate::lines;
+use crate::lines::Asked;
 use crate::outside;
 use crate::tell;
 use crate::words;
+use crate::words::DECIMAL;
 use record::Box;
 use trace::Part;
 
-// The box, and where its ring lies in the lent buffer.
-pub struct Bench {
-    pub guarded: Box,
-    pub at: Part,
-}
-
 // No box yet: the record of a refused making.
-pub fn empty() -> Bench {
-    let p = outside::profile([0; 32]);
-    let m = guard::make(p, 0);
-    let guarded = m.made;
-    Bench {
-        guarded,
-        at: Part { offset: 0, size: 0 },
+pub fn empty() -> Box {
+    making::make(outside::profile(b""), 0).made
+}
+
+// make: with the profile in the line, or with that of the last box.
+fn made(g: Box, line: &[u8], count: usize) -> Box {
+    let mut p = g.profile;
+    if 1 < count {
+        p = outside::profile(line);
+    }
+    box_calls::make(p, words::nth(line, 1, DECIMAL))
+}
+
+// A look at the box.
+fn look(g: Box, buf: &[u8; 4112], at: Part, word: u64, line: &[u8]) {
+    match word {
+        lines::SHOW => tell::record(g),
+        lines::READ => box_calls::read(g, buf, at, words::nth(line, 1, DECIMAL)),
+        _ => (),
     }
 }
 
-// A step that leaves the box.
-fn look(g: Box, buf: &mut [u8; 4112], at: Part, a: Asked) {
-    let n = a.list;
-    if a.kind == kinds::NOTHING || a.kind == kinds::PART {
-        return;
+// A step beside the box.
+fn aside(buf: &mut [u8; 4112], a: Asked, line: &[u8]) {
+    let word = a.word;
+    match word {
+        lines::FRAME => box_calls::frame(line, a.count),
+        lines::PUT => outside::put(buf, line),
+        lines::UNREADABLE => tell::unreadable(),
+        _ => (),
     }
-    if a.kind == kinds::SHOW {
-        tell::record(g);
-        return;
-    }
-    if a.kind == kinds::READ {
-        calls::read(g, buf, at, n[0]);
-        return;
-    }
-    if a.kind == kinds::FRAME {
-        calls::frame(n, a.count);
-        return;
-    }
-    if a.kind == kinds::PUT {
-        outside::put(buf, n[0], words::byte(n[1]));
-        return;
-    }
-    tell::unreadable();
 }
 
-// The box after a step.
-fn box_after(g: Box, buf: &mut [u8; 4112], at: Part, a: Asked) -> Box {
-    let n = a.list;
-    if a.kind == kinds::MAKE {
-        return calls::make(outside::profile(n), n[0]);
+// The box as a step sets it from outside.
+fn set(g: Box, word: u64, line: &[u8]) -> Box {
+    match word {
+        lines::CLOCK => outside::clock(g, line),
+        lines::HOLD => outside::hold(g, line),
+        lines::CHANNEL => outside::channel(g, line),
+        _ => g,
     }
-    if a.kind == kinds::AGAIN {
-        let p = g.profile;
-        return calls::make(p, n[0]);
-    }
-    if a.kind == kinds::SEND {
-        return calls::send(g, buf, at, n, a.count);
-    }
-    if a.kind == kinds::STOPS {
-        return calls::stops(g, buf, at, n[0]);
-    }
-    if a.kind == kinds::TICK {
-        return calls::ticks(g, buf, at, n[0]);
-    }
-    if a.kind == kinds::CLOCK {
-        return outside::clock(g, n[0]);
-    }
-    if a.kind == kinds::HOLD {
-        return outside::hold(g, words::byte(n[0]));
-    }
-    if a.kind == kinds::CHANNEL {
-        return outside::channel(g, n);
-    }
-    look(g, buf, at, a);
-    g
 }
 
-// The part after a step.
-fn part_after(at: Part, a: Asked) -> Part {
-    let n = a.list;
-    if a.kind == kinds::PART {
-        return Part {
-            offset: n[0] as usize,
-            size: n[1] as usize,
-        };
+// The box as a call on it leaves it.
+fn box_after(g: Box, buf: &mut [u8; 4112], at: Part, a: Asked, line: &[u8]) -> Box {
+    let word = a.word;
+    match word {
+        lines::MAKE => made(g, line, a.count),
+        lines::SEND => box_calls::send(g, buf, at, line, a.count),
+        lines::STOPS => box_calls::stops(g, buf, at, words::nth(line, 1, DECIMAL)),
+        lines::TICK => box_calls::ticks(g, buf, at, words::nth(line, 1, DECIMAL)),
+        _ => set(g, word, line),
     }
-    if a.kind == kinds::MAKE || a.kind == kinds::AGAIN {
-        return Part {
+}
+
+// The box after a step, of which is told what it gave.
+pub fn step(g: Box, buf: &mut [u8; 4112], at: Part, a: Asked, line: &[u8]) -> Box {
+    look(g, buf, at, a.word, line);
+    aside(buf, a, line);
+    box_after(g, buf, at, a, line)
+}
+
+// The part of the lent buffer, in which the ring lies, after a step.
+pub fn part_after(at: Part, word: u64, line: &[u8]) -> Part {
+    let first = words::nth(line, 1, DECIMAL) as usize;
+    match word {
+        lines::PART => Part {
+            offset: first,
+            size: words::nth(line, 2, DECIMAL) as usize,
+        },
+        lines::MAKE => Part {
             offset: 0,
-            size: n[0] as usize,
-        };
+            size: first,
+        },
+        _ => at,
     }
-    at
-}
-
-// The step that a line asks for.
-pub fn step(b: Bench, buf: &mut [u8; 4112], line: &[u8]) -> Bench {
-    let a = kinds::of_line(line);
-    let g = b.guarded;
-    let old = b.at;
-    let at = part_after(old, a);
-    let guarded = box_after(g, buf, at, a);
-    Bench { guarded, at }
 }

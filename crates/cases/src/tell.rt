@@ -1,9 +1,11 @@
 // What is written of a step.
+use bytes::scan;
+use frames::Read;
 use libc::STDOUT_FILENO;
-use machine::Released;
-use machine::Said;
 use model::Core;
 use record::Box;
+use said::Released;
+use said::Said;
 use trace::Readout;
 
 // The most bytes that are written of a readout.
@@ -13,10 +15,29 @@ pub fn text(s: &[u8]) {
     io::write_all(STDOUT_FILENO, s);
 }
 
-// A number behind its name.
-pub fn number(name: &[u8], n: u64) {
-    text(name);
-    io::print_decimal(STDOUT_FILENO, n);
+pub fn line_end() {
+    text(b"\n");
+}
+
+// A text of at most four marks `%`, with the first numbers of the list in their place.
+pub fn filled(s: &[u8], list: [u64; 4]) {
+    let mut from = 0;
+    let mut i = 0;
+    while from < s.len() {
+        let end = scan::find(s, from, s.len(), b'%');
+        text(&s[from..end]);
+        if end < s.len() {
+            if i < 4 {
+                io::print_decimal(STDOUT_FILENO, list[i]);
+                i += 1;
+            }
+        }
+        from = end + 1;
+    }
+}
+
+pub fn answer(n: u8) {
+    filled(b"  answer %\n", [n as u64, 0, 0, 0]);
 }
 
 fn digit(n: u8) -> u8 {
@@ -29,16 +50,23 @@ fn digit(n: u8) -> u8 {
     b'?'
 }
 
-pub fn byte(n: u8) {
-    let two = [digit(n / 16), digit(n % 16)];
-    text(&two);
+fn byte(n: u8) {
+    let s = [b' ', digit(n / 16), digit(n % 16)];
+    text(&s);
+}
+
+// A reply in brackets; nothing where it is 0.
+fn reply(n: u8) {
+    if n != 0 {
+        let s = [b' ', b'(', digit(n / 16), digit(n % 16), b')'];
+        text(&s);
+    }
 }
 
 // The first of the bytes, and that there are more.
 pub fn bytes(s: &[u8], count: usize) {
     for i in 0..s.len() {
-        if i < count && i < SHOWN {
-            text(b" ");
+        if (i < count) & (i < SHOWN) {
             byte(s[i]);
         }
     }
@@ -47,44 +75,42 @@ pub fn bytes(s: &[u8], count: usize) {
     }
 }
 
-// A pulse between two texts; nothing where none is released.
-fn pulse(before: &[u8], p: Released, after: &[u8]) {
-    if p.channel == 0 {
-        return;
+// A pulse, in a text with marks for its numbers; nothing where none is released.
+fn pulse(s: &[u8], p: Released) {
+    if p.channel != 0 {
+        filled(
+            s,
+            [
+                p.clock as u64,
+                p.channel as u64,
+                p.width as u64,
+                p.current as u64,
+            ],
+        );
     }
-    text(before);
-    number(b"clock ", p.clock as u64);
-    number(b": channel ", p.channel as u64);
-    number(b", ", p.width as u64);
-    number(b" us, ", p.current as u64);
-    text(b" mA");
-    text(after);
 }
 
 // What a byte was told: its answer, its reply in brackets where there is one, its pulse.
 pub fn said(s: Said) {
-    number(b" ", s.answer as u64);
-    if s.reply != 0 {
-        text(b" (");
-        byte(s.reply);
-        text(b")");
-    }
     let a = s.a;
     let b = s.b;
-    pulse(b" ", a, b"");
-    pulse(b" ", b, b"");
+    let line = b" clock %: channel %, % us, % mA";
+    filled(b" %", [s.answer as u64, 0, 0, 0]);
+    reply(s.reply);
+    pulse(line, a);
+    pulse(line, b);
 }
 
 // What a tick was told: nothing where it was taken and released nothing.
 pub fn ticked(s: Said) {
-    if s.answer != 0 {
-        number(b"  answer ", s.answer as u64);
-        text(b"\n");
-    }
     let a = s.a;
     let b = s.b;
-    pulse(b"  ", a, b"\n");
-    pulse(b"  ", b, b"\n");
+    let line = b"  clock %: channel %, % us, % mA\n";
+    if s.answer != 0 {
+        answer(s.answer);
+    }
+    pulse(line, a);
+    pulse(line, b);
 }
 
 pub fn unreadable() {
@@ -93,21 +119,29 @@ pub fn unreadable() {
 
 // What a readout answers, and the bytes that it copied to the front of `out`.
 pub fn readout(r: Readout, out: &[u8]) {
-    number(b"  answer ", r.answer as u64);
-    number(b", ", r.used as u64);
-    text(b" bytes:");
-    bytes(out, r.used);
-    text(b"\n");
+    let used = r.used;
+    filled(
+        b"  answer %, % bytes:",
+        [r.answer as u64, used as u64, 0, 0],
+    );
+    bytes(out, used);
+    line_end();
+}
+
+// What the reader of a frame answers.
+pub fn frame(r: Read) {
+    filled(
+        b"  answer %, used %\n",
+        [r.answer as u64, r.used as u64, 0, 0],
+    );
 }
 
 fn clock(n: u32, state: u8) {
-    number(b"  clock ", n as u64);
-    if state == model::IDLE {
-        text(b", idle");
-    } else if state == model::RUNNING {
-        text(b", running");
-    } else {
-        text(b", tripped");
+    filled(b"  clock %, ", [n as u64, 0, 0, 0]);
+    match state {
+        model::IDLE => text(b"idle"),
+        model::RUNNING => text(b"running"),
+        _ => text(b"tripped"),
     }
 }
 
@@ -115,17 +149,24 @@ fn clock(n: u32, state: u8) {
 pub fn reached(b: Box) {
     let core = b.core;
     clock(b.clock, core.state);
-    text(b"\n");
+    line_end();
 }
 
 fn machine(c: Core) {
     let run = c.run;
-    number(b", holds ", c.holda as u64);
-    number(b" ", c.holdb as u64);
-    number(b", position ", run.position as u64);
-    number(b", cycle ", run.cycle as u64);
-    number(b", count ", run.watch as u64);
-    number(b", waits ", run.waits as u64);
+    filled(
+        b", holds % %, position %, cycle %",
+        [
+            c.holda as u64,
+            c.holdb as u64,
+            run.position as u64,
+            run.cycle as u64,
+        ],
+    );
+    filled(
+        b", count %, waits %",
+        [run.watch as u64, run.waits as u64, 0, 0],
+    );
 }
 
 // The clock, the state and the other numbers of a record.
@@ -134,7 +175,8 @@ pub fn record(b: Box) {
     let partial = b.partial;
     clock(b.clock, core.state);
     machine(core);
-    number(b", frame ", partial.len as u64);
-    number(b" of ", partial.kept as u64);
-    text(b"\n");
+    filled(
+        b", frame % of %\n",
+        [partial.len as u64, partial.kept as u64, 0, 0],
+    );
 }

@@ -1,33 +1,41 @@
-// The numbers of a script's line.
+// The words and the numbers of a script's line.
 use bytes::scan;
+
+// How the digits of a number are read.
+pub const DECIMAL: bool = false;
+
+pub const HEX: bool = true;
 
 // What stands for no number: one more than the largest.
 const NONE: u64 = 4294967296;
 
 // The longest frame, an Update of eight channels, has 25 bytes.
-const MOST: usize = 32;
+pub const MOST: usize = 32;
 
-// The numbers behind a line's first word; none where one of them cannot be read, or where there are too many.
-pub struct Numbers {
-    pub count: usize,
-    pub list: [u32; 32],
+// The count where one of the numbers cannot be read, or where there are too many.
+const UNREAD: usize = 33;
+
+// Letters with one more, of which the last eight are kept.
+fn joined(value: u64, letter: u8) -> u64 {
+    value % 0x100_0000_0000_0000 * 256 + letter as u64
+}
+
+// A word's letters as one number, eight bits for each.
+pub fn letters(word: &[u8]) -> u64 {
+    let mut value = 0;
+    for i in 0..word.len() {
+        value = joined(value, word[i]);
+    }
+    value
 }
 
 // The value of a digit, or 16 where it is none.
 fn digit(c: u8) -> u64 {
-    if c < b'0' {
-        return 16;
+    match c {
+        b'0'..=b'9' => (c - b'0') as u64,
+        b'A'..=b'F' => (c - b'A') as u64 + 10,
+        _ => 16,
     }
-    if c <= b'9' {
-        return (c - b'0') as u64;
-    }
-    if c < b'A' {
-        return 16;
-    }
-    if c <= b'F' {
-        return (c - b'A') as u64 + 10;
-    }
-    16
 }
 
 // A number with one digit more: hexadecimal where `hex` says so, else decimal.
@@ -47,36 +55,49 @@ fn extended(value: u64, d: u64, hex: bool) -> u64 {
     NONE
 }
 
-fn number(word: &[u8], hex: bool) -> u64 {
-    if word.len() == 0 {
-        return NONE;
-    }
+// The number from `from` on, up to a space or to the line's end.
+fn number(line: &[u8], from: usize, hex: bool) -> u64 {
     let mut value = 0;
-    for i in 0..word.len() {
-        value = extended(value, digit(word[i]), hex);
+    let mut at = from;
+    while at < line.len() && line[at] != b' ' {
+        value = extended(value, digit(line[at]), hex);
+        at += 1;
     }
-    value
+    if at == from { NONE } else { value }
 }
 
-// The numbers from `from` on, where a space stands before each.
-pub fn read(line: &[u8], from: usize, hex: bool) -> Numbers {
-    let mut list = [0u32; 32];
-    let mut count = 0;
-    let mut at = from;
+// Where a word begins, the first being word 0; past the line's end where there is none.
+fn start(line: &[u8], word: usize) -> usize {
+    let mut at = 0;
+    let mut left = word;
     while at < line.len() {
-        let end = scan::find(line, at + 1, line.len(), b' ');
-        let n = number(&line[at + 1..end], hex);
-        if MOST <= count {
-            return Numbers { count: 0, list };
+        if left == 0 {
+            return at;
         }
-        if NONE <= n {
-            return Numbers { count: 0, list };
-        }
-        list[count] = n as u32;
-        count += 1;
-        at = end;
+        at = scan::find(line, at, line.len(), b' ') + 1;
+        left -= 1;
     }
-    Numbers { count, list }
+    at
+}
+
+// How many numbers stand behind a line's first word.
+pub fn count(line: &[u8], hex: bool) -> usize {
+    for i in 0..UNREAD {
+        let at = start(line, i + 1);
+        if line.len() < at {
+            return i;
+        }
+        if NONE <= number(line, at, hex) {
+            return UNREAD;
+        }
+    }
+    UNREAD
+}
+
+// The number that is a line's word; 0 where there is none.
+pub fn nth(line: &[u8], word: usize, hex: bool) -> u32 {
+    let n = number(line, start(line, word), hex);
+    if n < NONE { n as u32 } else { 0 }
 }
 
 // A number for a field of eight bits, or the field's largest.
@@ -89,10 +110,11 @@ pub fn short(n: u32) -> u16 {
     if n < 65536 { n as u16 } else { 65535 }
 }
 
-pub fn bytes(n: [u32; 32]) -> [u8; 32] {
+// The numbers as bytes.
+pub fn bytes(line: &[u8]) -> [u8; 32] {
     let mut s = [0u8; 32];
     for i in 0..32 {
-        s[i] = byte(n[i]);
+        s[i] = byte(nth(line, i + 1, HEX));
     }
     s
 }

@@ -1,12 +1,12 @@
-// The four commands (document 01, "The four frames"): their variables, good values and Check; the reply byte.
+// The four commands (document 01, "The four frames"): their variables and good values; the reply byte.
 pub mod answers;
 pub mod idents;
 pub mod sizes;
 
 ghost use mathlib.Core.Path.{_≡_};
-ghost use Prim.Native.Nat.{_%_, _<_};
+ghost use lib.Dec.{eqb};
 ghost use Rattle.commands.specs.Ranges.{within, goodPulse, goodCount};
-ghost use Rattle.commands.specs.Commands.{Command.init, Command.update, Command.single, goodSetting, goodEntry, goodEntries, good, settingSum, sumAll, check};
+ghost use Rattle.commands.specs.Commands.{Command.init, Command.update, Command.single, settingSum, goodSetting, goodEntry, goodEntries, good};
 ghost use Rattle.commands.specs.Reply.{reply};
 
 // What an Init sets: N_Factor, Channel_Stim, Channel_Lf, Group_Time, Main_Time.
@@ -19,6 +19,14 @@ pub struct Init {
     pub main: u16,
 }
 
+pub const NO_INIT: Init = Init {
+    factor: 0,
+    stim: 0,
+    lf: 0,
+    group: 0,
+    main: 0,
+};
+
 // What an Update sets one channel to.
 #[repr(C)]
 pub struct Setting {
@@ -27,6 +35,12 @@ pub struct Setting {
     pub current: u8,
 }
 
+pub const NO_SETTING: Setting = Setting {
+    mode: 0,
+    width: 0,
+    current: 0,
+};
+
 // What a Single asks for; its channel is Channel_Number, 0 to 7.
 #[repr(C)]
 pub struct Single {
@@ -34,6 +48,12 @@ pub struct Single {
     pub width: u16,
     pub current: u8,
 }
+
+pub const NO_SINGLE: Single = Single {
+    channel: 0,
+    width: 0,
+    current: 0,
+};
 
 // ---- good values
 
@@ -63,15 +83,18 @@ pub fn good_setting(v: Setting) -> bool
     (v.mode <= 2) & good_pulse(v.width, v.current)
 }
 
+// Whether a setting is zero throughout.
+pub fn is_zero(v: Setting) -> bool
+    ensures { λ r. ⌜ r ≡ eqb (settingSum v) 0 ⌝ }
+{
+    v.mode as u32 + v.width as u32 + v.current as u32 == 0
+}
+
 // A listed entry is good, any other is zero.
 fn good_entry(v: Setting, listed: bool) -> bool
     ensures { λ r. ⌜ r ≡ goodEntry v listed ⌝ }
 {
-    if listed {
-        good_setting(v)
-    } else {
-        setting_sum(v) == 0
-    }
+    if listed { good_setting(v) } else { is_zero(v) }
 }
 
 fn good_entries(entries: [Setting; 8], count: usize) -> bool
@@ -105,39 +128,6 @@ pub fn good_single(v: Single) -> bool
     ensures { λ r. ⌜ r ≡ good (single v) ⌝ }
 {
     (v.channel <= 7) & good_pulse(v.width, v.current)
-}
-
-// ---- Check
-
-pub fn check_init(v: Init) -> u64
-    ensures { λ r. ⌜ r ≡ check (init v) ⌝ }
-{
-    (v.factor as u64 + v.stim as u64 + v.lf as u64 + v.group as u64 + v.main as u64) % 8
-}
-
-fn setting_sum(v: Setting) -> u64
-    ensures { λ r. ⌜ (r ≡ settingSum v) × (r < 70000) ⌝ }
-{
-    v.mode as u64 + v.width as u64 + v.current as u64
-}
-
-// Summed over all its channels in wide numbers, and reduced at the end.
-pub fn check_update(entries: [Setting; 8]) -> u64
-    ensures { λ r. ⌜ r ≡ sumAll entries % 32 ⌝ }
-{
-    let mut sum: u64 = 0;
-    let mut i = 0;
-    while i < 8 {
-        sum += setting_sum(entries[i]);
-        i += 1;
-    }
-    sum % 32
-}
-
-pub fn check_single(v: Single) -> u64
-    ensures { λ r. ⌜ r ≡ check (single v) ⌝ }
-{
-    (v.channel as u64 + v.width as u64 + v.current as u64) % 32
 }
 
 // ---- the reply

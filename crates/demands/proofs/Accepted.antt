@@ -15,7 +15,7 @@ use Rattle.commands.specs.Commands.{Command, check, good}
 use Rattle.commands.proofs.Tests.{passed, first-none}
 use Rattle.frames.specs.Layout.{sizeFor, commandIn, checkIn}
 use Rattle.frames.specs.Reader.{later, hasHigh, shapeTests, valueTests, found, answered, readFrame}
-use Rattle.frames.proofs.Shape.{Shaped, shape-refuses, shaped, has-first}
+use Rattle.frames.proofs.Shaped.{Shaped, shape-refuses, shaped, has-first}
 
 -- ---- low bytes
 

@@ -20,14 +20,16 @@ use Rattle.model.specs.Arrival.{lengthened, opened, followed, arrive, decided, 
 use Rattle.model.specs.Ticks.{moved, releases, watched, timed, tickStep}
 use Rattle.model.specs.Machine.{Call, Call.byte, Call.tick, step, run, after}
 use Rattle.model.specs.Good.{goodAt, settingFits, fits, goodRun, zeroRun, goodCore, goodSize, goodPartial, goodState}
-use Rattle.record.specs.Box.{stateOf, frameOf, boxOf, zeros, unusedZero, goodBox}
-use Rattle.machine.specs.Said.{pulseOf, saidOf}
-use Rattle.machine.specs.Claims.{pulsesIn}
+use Rattle.partial.specs.Partial.{frameOf, zeros, unusedZero}
+use Rattle.record.specs.Box.{stateOf, boxOf, goodBox}
+use Rattle.said.specs.Said.{pulseOf, saidOf}
+use Rattle.outcome.specs.Claims.{pulsesIn}
 use Rattle.trace.specs.declared.Record.the-variants.{Pulse}
-use Rattle.guard.specs.Making.{makeOf}
-use Rattle.guard.specs.Calls.{filed, callOf}
-use Rattle.guard.specs.Calls as calls
-use Rattle.guard.specs.Readout.{readoutOf, readoutBytes}
+use Rattle.calls.specs.Making.{makeOf}
+use Rattle.calls.specs.Filed.{filed}
+use Rattle.calls.specs.Calls.{callOf}
+use Rattle.calls.specs.Calls as calls
+use Rattle.calls.specs.Readout.{readoutOf, readoutBytes}
 use Rattle.trace.specs.Records.{sizeOf}
 use Rattle.trace.specs.Rows.{joined, splitsAfter, recordsAfter}
 use Rattle.trace.specs.Tail.{tailWithin, kept}

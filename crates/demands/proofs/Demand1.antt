@@ -25,12 +25,13 @@ use Rattle.model.proofs.Tests.{either-way, not-both}
 use Rattle.record.specs.declared.Box.{Box}
 use Rattle.record.specs.Box.{stateOf, goodBox}
 use Rattle.record.proofs.Carries.{back}
-use Rattle.machine.specs.Said.{saidOf}
-use Rattle.machine.proofs.Calls.{good-taken}
-use Rattle.guard.specs.Making.{makeAnswer, makeOf}
-use Rattle.guard.specs.Calls.{filed, refusalOf, given, callOf}
-use Rattle.guard.proofs.Zero.{zero-not-good}
-use Rattle.guard.specs.Readout.{readoutOf, readoutBytes}
+use Rattle.said.specs.Said.{saidOf}
+use Rattle.outcome.proofs.Calls.{good-taken}
+use Rattle.calls.specs.Making.{makeAnswer, makeOf}
+use Rattle.calls.specs.Filed.{filed}
+use Rattle.calls.specs.Calls.{refusalOf, given, callOf}
+use Rattle.calls.proofs.Zero.{zero-not-good}
+use Rattle.calls.specs.Readout.{readoutOf, readoutBytes}
 use Rattle.demands.specs.RoundTrips.{Held}
 use Rattle.demands.specs.Demand1.{CallKeeps, ReadoutKeeps, WriterKeeps, MakeRefuses, Demand1}
 use Rattle.demands.proofs.Answers.{way, stays}

@@ -19,7 +19,7 @@ use Rattle.model.specs.Machine.{after}
 use Rattle.model.proofs.Theorems.{always-good}
 use Rattle.record.specs.Box.{stateOf, boxOf}
 use Rattle.record.proofs.Carries.{carries}
-use Rattle.guard.specs.Making.{emptyRing, freshBox, makeOf}
+use Rattle.calls.specs.Making.{emptyRing, freshBox, makeOf}
 use Rattle.demands.specs.History.{Kept, History, start, calls}
 use Rattle.demands.specs.Demand2.{Demand2Holds}
 use Rattle.demands.proofs.Histories.{box, Grown, Holds, from, reads}

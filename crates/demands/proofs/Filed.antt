@@ -13,7 +13,7 @@ use Rattle.trace.proofs.Places.{Placed, placed-facts}
 use Rattle.trace.proofs.Outcomes.{ready-facts}
 use Rattle.trace.proofs.Taken.{push-rule, push-capacity}
 use Rattle.trace.proofs.Theorems.{push-keeps-ready, calls-keep}
-use Rattle.guard.specs.Calls.{filed}
+use Rattle.calls.specs.Filed.{filed}
 
 pub filed-size : (at : Part) (g : Ring) (buf : List ℕ) (xs : List Record) → length (filed at g buf xs .buf) ≡ length buf
 unfolding filed

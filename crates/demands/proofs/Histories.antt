@@ -30,10 +30,11 @@ use Rattle.model.proofs.Few.{step-releases}
 use Rattle.model.proofs.Theorems.{step-keeps-good}
 use Rattle.record.specs.Box.{boxOf, goodBox}
 use Rattle.record.proofs.Carries.{carries, carrier-good}
-use Rattle.machine.specs.Said.{saidOf}
-use Rattle.machine.proofs.Lost.{placed}
-use Rattle.guard.specs.Calls.{Filed, filed, Answered, given, callOf}
-use Rattle.guard.specs.Readout.{readoutOf, readoutBytes}
+use Rattle.said.specs.Said.{saidOf}
+use Rattle.outcome.proofs.Lost.{placed}
+use Rattle.calls.specs.Filed.{Filed, filed, Answered}
+use Rattle.calls.specs.Calls.{given, callOf}
+use Rattle.calls.specs.Readout.{readoutOf, readoutBytes}
 use Rattle.demands.specs.FreshBox.{trace}
 use Rattle.demands.specs.History.{Turn, Turn.call, Turn.readout, Kept, next, last, Proper, calls, Spoken, spokenBy, spoken}
 use Rattle.demands.specs.Demand2.{documented, NoneRefused, ReadsOut}

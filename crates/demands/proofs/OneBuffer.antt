@@ -12,7 +12,7 @@ use Rattle.model.specs.declared.Profile.{Profile}
 use Rattle.model.specs.State.{State}
 use Rattle.model.specs.Machine.{Call, step}
 use Rattle.record.specs.Box.{boxOf}
-use Rattle.guard.specs.Calls as guard
+use Rattle.calls.specs.Calls as guard
 use Rattle.demands.specs.History.{next, Proper, calls}
 use Rattle.demands.specs.OneBuffer.{Bench, onward, turnsOf, AnyHistory}
 use Rattle.demands.proofs.Filed.{filed-ready, ready-placed}

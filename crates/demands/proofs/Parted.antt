@@ -23,7 +23,7 @@ use Rattle.model.specs.Machine.{Call, Call.byte, Call.tick, step}
 use Rattle.model.proofs.Tests.{either-way}
 use Rattle.model.proofs.Accepted.{accepted}
 use Rattle.model.proofs.Cases.{carry-cases, ticked, timed-cases}
-use Rattle.machine.specs.Claims.{pulsesIn}
+use Rattle.outcome.specs.Claims.{pulsesIn}
 use Rattle.demands.proofs.Limits.{same-or-9, accepts-too}
 
 -- a state, by its parts

@@ -15,13 +15,13 @@ use Rattle.commands.specs.Ranges.{goodCount}
 use Rattle.commands.specs.Commands.{Command, Command.init, Command.update, Command.stop, Command.single, noSetting, sumAll, check}
 use Rattle.commands.specs.Commands.{goodInit, goodEntries, goodSingle, good}
 use Rattle.commands.proofs.Tests.{both}
-use Rattle.frames.specs.declared.layout.Entry.{Entry}
+use Rattle.frames.specs.declared.Entry.{Entry}
 use Rattle.frames.specs.Layout.{identIn, initOf, settingsIn, entriesIn, commandIn, checkIn}
 use Rattle.frames.specs.Bytes.{size, frame, head, initNumber, initBytes, entryBytes, settingsBytes}
 use Rattle.frames.specs.Reader.{readFrame, found}
 use Rattle.demands.specs.RoundTrips.{Held, Told, ReadsBack}
 use Rattle.commands.proofs.Fits.{count-fits, init-fits, single-fits, listed-fit, then-zeros}
-use Rattle.frames.proofs.Shape.{Shaped}
+use Rattle.frames.proofs.Shaped.{Shaped}
 use Rattle.demands.proofs.Accepted.{reads-found, framed}
 use Rattle.frames.proofs.Idents.{init-here, update-here, stop-here, single-here, check-3, check-5}
 use Rattle.demands.proofs.ThreeBytes.{entry-there, entry-lows}

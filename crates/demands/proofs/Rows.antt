@@ -7,7 +7,7 @@ use lib.ListN.{length, drop}
 use lib.Seq.{drop-drop}
 use Rattle.commands.specs.declared.Setting.{Setting}
 use Rattle.commands.proofs.Fits.{AllFit}
-use Rattle.frames.specs.declared.layout.Entry.{Entry}
+use Rattle.frames.specs.declared.Entry.{Entry}
 use Rattle.frames.specs.Layout.{settingsIn}
 use Rattle.frames.specs.Bytes.{settingsBytes}
 use Rattle.demands.proofs.Accepted.{Lows}

@@ -12,7 +12,7 @@ use Rattle.model.specs.State.{State, isTripped, fresh}
 use Rattle.model.specs.Arrival.{Result}
 use Rattle.model.specs.Machine.{Call, step, after, run}
 use Rattle.model.proofs.Tests.{not-both}
-use Rattle.machine.specs.Claims.{pulsesIn}
+use Rattle.outcome.specs.Claims.{pulsesIn}
 use Rattle.demands.specs.Demand2.{documented}
 use Rattle.demands.specs.Demand3.{Included}
 use Rattle.demands.proofs.Parted.{Apart, Apart.apart, Related, Related.joined, Related.parted, Met, Met.same, Met.fell, met}

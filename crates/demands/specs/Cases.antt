@@ -15,7 +15,7 @@ use Rattle.frames.specs.Reader.{found, refused, readFrame}
 use Rattle.writers.specs.Writer.{wrote, written}
 use Rattle.trace.specs.declared.Record.the-variants.{Answer, Pulse, Trip}
 use Rattle.trace.specs.Case13.{wanted}
-use Rattle.guard.specs.Making.{makeOf}
+use Rattle.calls.specs.Making.{makeOf}
 use Rattle.demands.specs.FreshBox.{sent, ticks, loosest, box, answers, trace, recordNumbers, decides, readsOut}
 
 -- a case: its number in document 01, and what two sides give, written as numbers

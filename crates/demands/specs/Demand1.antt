@@ -14,9 +14,9 @@ use Rattle.model.specs.declared.Profile.{Profile}
 use Rattle.model.specs.Machine.{Call}
 use Rattle.record.specs.declared.Box.{Box}
 use Rattle.record.specs.Box.{goodBox}
-use Rattle.guard.specs.Making.{zeroBox, makeOf}
-use Rattle.guard.specs.Calls.{callOf}
-use Rattle.guard.specs.Readout.{readoutOf, readoutBytes}
+use Rattle.calls.specs.Making.{zeroBox, makeOf}
+use Rattle.calls.specs.Calls.{callOf}
+use Rattle.calls.specs.Readout.{readoutOf, readoutBytes}
 use Rattle.demands.specs.RoundTrips.{Held}
 
 -- answers 11 to 17

@@ -14,9 +14,9 @@ use Rattle.model.specs.declared.Profile.{Profile}
 use Rattle.model.specs.State.{fresh}
 use Rattle.model.specs.Machine.{Call, Outcome, run, after}
 use Rattle.record.specs.Box.{stateOf}
-use Rattle.machine.specs.Claims.{pulsesIn}
-use Rattle.guard.specs.Calls.{callOf}
-use Rattle.guard.specs.Readout.{readoutOf, readoutBytes}
+use Rattle.outcome.specs.Claims.{pulsesIn}
+use Rattle.calls.specs.Calls.{callOf}
+use Rattle.calls.specs.Readout.{readoutOf, readoutBytes}
 use Rattle.demands.specs.FreshBox.{trace}
 use Rattle.demands.specs.History.{Turn, Turn.call, Turn.readout, Kept, next, last, LentWith, History, start, calls, Spoken, spoken}
 

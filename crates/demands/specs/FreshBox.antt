@@ -11,8 +11,8 @@ use Rattle.trace.specs.declared.Record.the-variants.{Answer, Pulse, Trip}
 use Rattle.model.specs.declared.Profile.{Profile}
 use Rattle.model.specs.State.{fresh}
 use Rattle.model.specs.Machine.{Call, Call.byte, Call.tick, Outcome, run}
-use Rattle.guard.specs.Making.{makeOf}
-use Rattle.guard.specs.Readout.{readoutOf, readoutBytes}
+use Rattle.calls.specs.Making.{makeOf}
+use Rattle.calls.specs.Readout.{readoutOf, readoutBytes}
 use Rattle.demands.specs.OneBuffer.{Bench, given}
 
 -- ---- calls: bytes, the frames of commands, and ticks

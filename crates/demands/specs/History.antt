@@ -10,10 +10,11 @@ use Rattle.trace.specs.Proper.{Lent}
 use Rattle.model.specs.declared.Profile.{Profile}
 use Rattle.model.specs.Machine.{Call}
 use Rattle.record.specs.declared.Box.{Box}
-use Rattle.machine.specs.declared.Said.{Said}
-use Rattle.machine.specs.Claims.{places}
-use Rattle.guard.specs.Making.{makeOf}
-use Rattle.guard.specs.Calls.{Answered, callOf}
+use Rattle.said.specs.declared.Said.{Said}
+use Rattle.outcome.specs.Claims.{places}
+use Rattle.calls.specs.Making.{makeOf}
+use Rattle.calls.specs.Filed.{Answered}
+use Rattle.calls.specs.Calls.{callOf}
 
 -- a byte or a tick, or a readout to an output; behind it the buffer that is lent, and where the ring's part lies in it
 pub data Turn : Type 0 where

@@ -9,8 +9,9 @@ use Rattle.trace.specs.Ring.{goodPart, part}
 use Rattle.model.specs.declared.Profile.{Profile}
 use Rattle.model.specs.Machine.{Call}
 use Rattle.record.specs.declared.Box.{Box}
-use Rattle.guard.specs.Making.{makeOf}
-use Rattle.guard.specs.Calls.{Answered, callOf}
+use Rattle.calls.specs.Making.{makeOf}
+use Rattle.calls.specs.Filed.{Answered}
+use Rattle.calls.specs.Calls.{callOf}
 use Rattle.demands.specs.History.{Turn, Turn.call, Proper, calls}
 
 -- a box, and the buffer that is lent with it

@@ -10,7 +10,7 @@ use Rattle.model.specs.declared.Profile.{Profile}
 use Rattle.model.specs.Profiles.{NowhereLooser}
 use Rattle.model.specs.State.{isTripped, fresh}
 use Rattle.model.specs.Machine.{Call, run, after}
-use Rattle.machine.specs.Claims.{pulsesIn}
+use Rattle.outcome.specs.Claims.{pulsesIn}
 use Rattle.demands.specs.FreshBox.{sent, ticks, loosest, trace, recordNumbers}
 use Rattle.demands.specs.Cases.{setTo, updateOf, init5, update6}
 

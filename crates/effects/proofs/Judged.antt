@@ -13,7 +13,7 @@ use Rattle.frames.specs.declared.Read.{Read}
 use Rattle.frames.specs.Layout.{identIn, sizeFor, commandIn, checkIn}
 use Rattle.frames.specs.Reader.{fieldsOf, answered}
 use Rattle.frames.specs.Reader.{judge as judgeFrame}
-use Rattle.frames.proofs.Shape.{shaped}
+use Rattle.frames.proofs.Shaped.{shaped}
 use Rattle.frames.proofs.Idents.{init-here, update-here, stop-here, single-here, for-each-ident}
 use Rattle.frames.proofs.Judging.{read-judged}
 use Rattle.model.specs.declared.Profile.{Profile}
@@ -23,7 +23,8 @@ use Rattle.model.specs.Judgement.{asked, isUpdate, isSingle, breaksTiming, inHo
 use Rattle.model.specs.Effects.{accept, carry}
 use Rattle.model.specs.Arrival.{decided, commandOf, judged}
 use Rattle.model.proofs.Tests.{either-way}
-use Rattle.effects.specs.Deciding.{dropFrame, lateTests, late, commandFrom, decideRead, toldCount, decideFrame, Whole}
+use Rattle.decided.specs.Given.{dropFrame}
+use Rattle.effects.specs.Deciding.{lateTests, late, commandFrom, decideRead, toldCount, decideFrame, Whole}
 
 -- what an Update asks for does not depend on its count
 same-late : (p : Profile) (clock : ℕ) (m : Core) (c : Command) → late p clock m (commandFrom (ident c) (fieldsOf c)) ≡ late p clock m c

@@ -1,7 +1,7 @@
 -- The judgement of a command of each kind, and what it comes to. Assumes nothing.
 use Prim.Native.Nat.{ℕ}
 use mathlib.Core.Bool.{not}
-use mathlib.Core.Path.{_≡_, refl}
+use mathlib.Core.Path.{_≡_, refl, sym, _∙_}
 use mathlib.Core.List.{List, [], _∷_}
 use lib.Dec.{ltb}
 use lib.ListN.{set}
@@ -18,65 +18,60 @@ use Rattle.model.specs.Timing.{t1, initTiming, updateTiming}
 use Rattle.model.specs.Profiles.{overLimits}
 use Rattle.model.specs.State.{isRunning, still}
 use Rattle.model.specs.Judgement.{asked, breaksTiming, holdOf, inHold, overLimit}
-use Rattle.model.specs.Effects.{tripped, withRun, fed, accept, carry}
+use Rattle.model.specs.Effects.{Done, withRun, started, waited, accept, carry}
 use Rattle.model.specs.Arrival.{decided}
-use Rattle.effects.specs.Deciding.{dropFrame, lateTests, late}
+use Rattle.decided.specs.declared.Decided.{Decided}
+use Rattle.decided.specs.Given.{dropFrame, given}
+use Rattle.effects.specs.Deciding.{lateTests, late}
 
--- ---- the tests of each kind
+-- a core without a record beside it
+abbrev bare : Core → Done
+bare n = record { core = n; records = [] }
 
-pub init-tests : (p : Profile) (m : Core) (v : Init)
-    → firstOf (lateTests p m (init v)) ≡ firstOf (5 when not (initTiming v) ∷ 9 when ltb (t1 (v .main)) (p .shortest) ∷ [])
-unfolding lateTests breaksTiming inHold overLimit
-init-tests p m v = refl
+module _ (p : Profile) (clock : ℕ) (m : Core) where
+  -- ---- what is carried out, and what is not
 
-pub update-tests : (p : Profile) (m : Core) (count : ℕ) (entries : List Setting)
-    → let settings : List Setting = placed (m .run .list .stim) entries in
-    firstOf (lateTests p m (update count entries))
-    ≡ firstOf (6 when not (isRunning m) ∷ 5 when not (updateTiming (m .run .list) settings) ∷ 9 when overLimits p settings ∷ [])
-unfolding lateTests breaksTiming inHold overLimit asked
-update-tests p m count entries = refl
+  module _ (c : Command) {a : ℕ} {r : Decided} (first : a ≡ firstOf (lateTests p m c)) where
+    pub carried-out : a ≡ 0 → r ≡ given (decided clock (ident c) 0 (accept clock m c)) → r ≡ given (late p clock m c)
+    unfolding late carry
+    carried-out z e = e ∙ rw (sym first ∙ z)
 
-pub single-tests : (p : Profile) (m : Core) (v : Single)
-    → let settings : List Setting = set silence (v .channel) (record { mode = 0; width = v .width; current = v .current }) in
-    firstOf (lateTests p m (single v))
-    ≡ firstOf (7 when isRunning m ∷ 8 when ltb 0 (holdOf m (v .channel)) ∷ 9 when overLimits p settings ∷ [])
-unfolding lateTests breaksTiming inHold overLimit asked
-single-tests p m v = refl
+    pub not-carried : (a ≡ 0 → ⊥) → r ≡ given (dropFrame clock m (ident c) a) → r ≡ given (late p clock m c)
+    unfolding late carry
+    not-carried n e = e ∙ rw (← first, ne-eqb a 0 n)
 
-stop-tests : (p : Profile) (m : Core) → firstOf (lateTests p m stop) ≡ 0
-unfolding lateTests breaksTiming inHold overLimit
-stop-tests p m = refl
+  -- ---- the tests of each kind, and what it does
 
--- ---- what is carried out, and what is not
+  module _ (v : Init) {a : ℕ} (judged : a ≡ firstOf (5 when not (initTiming v) ∷ 9 when ltb (t1 (v .main)) (p .shortest) ∷ [])) where
+    pub init-tests : a ≡ firstOf (lateTests p m (init v))
+    unfolding lateTests breaksTiming inHold overLimit
+    init-tests = judged
 
-module _ (p : Profile) (clock : ℕ) (m : Core) (c : Command) where
-  pub carried-out : firstOf (lateTests p m c) ≡ 0 → decided clock (ident c) 0 (accept clock m c) ≡ late p clock m c
-  unfolding late carry
-  carried-out e = rw e
+    pub init-done : {n : Core} {r : Decided} → a ≡ 0 → n ≡ record { holda = 15; holdb = 15; state = 1; run = started v }
+        → r ≡ given (decided clock 0 a (bare n)) → r ≡ given (late p clock m (init v))
+    unfolding accept
+    init-done z e t = carried-out (init v) init-tests z (t ∙ rw (z, e))
 
-  pub not-carried : (a : ℕ) → a ≡ firstOf (lateTests p m c) → (a ≡ 0 → ⊥) → dropFrame clock m (ident c) a ≡ late p clock m c
-  unfolding late carry
-  not-carried a e n = rw (← e, ne-eqb a 0 n)
+  module _ (entries : List Setting) {settings : List Setting} {a : ℕ} (asks : settings ≡ placed (m .run .list .stim) entries)
+      (judged : a ≡ firstOf (6 when not (isRunning m) ∷ 5 when not (updateTiming (m .run .list) settings) ∷ 9 when overLimits p settings ∷ []))
+    where
+      pub update-tests : a ≡ firstOf (lateTests p m (update 0 entries))
+      unfolding lateTests breaksTiming inHold overLimit asked
+      update-tests = rw asks at judged
 
--- a Stop is accepted in any state
-pub stopped : (p : Profile) (clock : ℕ) (m : Core)
-    → decided clock 2 0 (record { core = record { holda = 15; holdb = 15; state = 0; run = still }; records = [] })
-    ≡ late p clock m stop
-unfolding accept
-stopped p clock m = carried-out p clock m stop (stop-tests p m)
+      pub update-done : {n : Core} {r : Decided} → a ≡ 0 → n ≡ withRun m (waited (m .run) settings)
+          → r ≡ given (decided clock 1 a (bare n)) → r ≡ given (late p clock m (update 0 entries))
+      unfolding accept asked
+      update-done z e t = carried-out (update 0 entries) update-tests z (t ∙ rw (z, e, asks))
 
--- ---- what a command that is not carried out comes to
+  pub single-tests : (v : Single) {a : ℕ}
+      → a ≡ firstOf (7 when isRunning m ∷ 8 when ltb 0 (holdOf m (v .channel)) ∷ 9 when overLimits p (set silence (v .channel) (record { mode = 0; width = v .width; current = v .current })) ∷ [])
+      → a ≡ firstOf (lateTests p m (single v))
+  unfolding lateTests breaksTiming inHold overLimit asked
+  single-tests v e = e
 
-module _ (clock : ℕ) (m : Core) (k answer : ℕ) where
-  -- 9 trips the box
-  pub over-limit : answer ≡ 9 → decided clock k 9 (tripped clock 1 m) ≡ dropFrame clock m k answer
-  over-limit e = rw e
-
-  -- 3 leaves it
-  pub wrong-check : answer ≡ 3 → decided clock k answer (record { core = m; records = [] }) ≡ dropFrame clock m k answer
-  wrong-check e = rw e
-
-  -- any other answer feeds the watchdog
-  pub feeds : (answer ≡ 9 → ⊥) → (answer ≡ 3 → ⊥)
-      → decided clock k answer (record { core = withRun m (fed (m .run)); records = [] }) ≡ dropFrame clock m k answer
-  feeds n c = rw (ne-eqb answer 9 n, ne-eqb answer 3 c)
+  -- a Stop is accepted in any state
+  pub stop-done : {n : Core} {r : Decided} → n ≡ record { holda = 15; holdb = 15; state = 0; run = still }
+      → r ≡ given (decided clock 2 0 (bare n)) → r ≡ given (late p clock m stop)
+  unfolding lateTests breaksTiming inHold overLimit accept
+  stop-done e t = carried-out stop refl refl (t ∙ rw e)

@@ -16,16 +16,12 @@ use Rattle.model.specs.declared.Profile.{Profile}
 use Rattle.model.specs.declared.Core.{Core}
 use Rattle.model.specs.State.{isTripped}
 use Rattle.model.specs.Judgement.{lateRefusals, overLimit}
-use Rattle.model.specs.Effects.{Done, dropped, carry}
+use Rattle.model.specs.Effects.{carry}
 use Rattle.model.specs.Arrival.{Result, decided}
-use Rattle.machine.specs.declared.Released.{Released}
-use Rattle.machine.specs.declared.Said.{Said}
-use Rattle.machine.specs.Said.{nothing, saidOf, recordsOf}
-use Rattle.effects.specs.declared.Decided.{Decided}
-
--- a command that is not carried out
-abbrev pub dropFrame : ℕ → Core → ℕ → ℕ → Result
-dropFrame clock m k answer = decided clock k answer (dropped clock m answer)
+use Rattle.said.specs.declared.Released.{Released}
+use Rattle.said.specs.declared.Said.{Said}
+use Rattle.said.specs.Said.{nothing}
+use Rattle.decided.specs.Given.{dropFrame}
 
 -- the tests behind 3, 10 and 4
 unfoldable pub lateTests : Profile → Core → Command → List Test
@@ -58,10 +54,6 @@ toldCount size = cond (ltb size 3) 1 (size / 3)
 -- alone
 abbrev pub decideFrame : Profile → ℕ → Core → List ℕ → Result
 decideFrame p clock m s = decideRead p clock m (identIn s) (readFrame s (toldCount (length s)))
-
--- what a decided command gives back, by value
-unfoldable pub given : Result → Decided
-given r = record { said = saidOf r; records = recordsOf (r .records); core = r .state .core }
 
 -- a whole frame: the reader finds no fault in its shape
 abbrev pub Whole : List ℕ → Type 0

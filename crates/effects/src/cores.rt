@@ -1,4 +1,4 @@
-// What a command leaves of the core.
+// What an accepted command leaves of the core.
 use commands::Init;
 use commands::Setting;
 use model::Core;
@@ -9,43 +9,12 @@ ghost use lib.Dec.{ltb};
 ghost use Rattle.model.specs.State.{still};
 ghost use Rattle.model.specs.Effects.{withRun, fed, started, waited};
 
-fn start(v: Init) -> Run
-    ensures { λ r. ⌜ r ≡ started v ⌝ }
-{
-    let settings = [Setting {
-        mode: 0,
-        width: 0,
-        current: 0,
-    }; 8];
-    Run {
-        list: v,
-        settings,
-        waits: 0,
-        waiting: settings,
-        position: 0,
-        cycle: 0,
-        watch: 0,
-    }
-}
-
-// What a box has that is not running.
-pub fn no_run() -> Run
-    ensures { λ r. ⌜ r ≡ still ⌝ }
-{
-    start(Init {
-        factor: 0,
-        stim: 0,
-        lf: 0,
-        group: 0,
-        main: 0,
-    })
-}
-
 // An accepted Init.
 pub fn running(v: Init) -> Core
     ensures { λ r. ⌜ r ≡ record { holda = 15; holdb = 15; state = 1; run = started v } ⌝ }
 {
-    let run = start(v);
+    let mut run = model::STILL;
+    run.list = v;
     Core {
         holda: model::HOLD,
         holdb: model::HOLD,
@@ -58,32 +27,11 @@ pub fn running(v: Init) -> Core
 pub fn idle() -> Core
     ensures { λ r. ⌜ r ≡ record { holda = 15; holdb = 15; state = 0; run = still } ⌝ }
 {
-    let run = no_run();
+    let run = model::STILL;
     Core {
         holda: model::HOLD,
         holdb: model::HOLD,
         state: model::IDLE,
-        run,
-    }
-}
-
-// The watchdog count goes to 0.
-fn fed(r: Run) -> Run
-    ensures { λ o. ⌜ o ≡ fed r ⌝ }
-{
-    let mut n = r;
-    n.watch = 0;
-    n
-}
-
-pub fn feed(m: Core) -> Core
-    ensures { λ r. ⌜ r ≡ withRun m (fed (m .run)) ⌝ }
-{
-    let run = fed(m.run);
-    Core {
-        holda: m.holda,
-        holdb: m.holdb,
-        state: m.state,
         run,
     }
 }
@@ -105,19 +53,14 @@ pub fn wait(m: Core, settings: [Setting; 8]) -> Core
 pub fn hold(m: Core, channel: u8) -> Core
     ensures { λ r. ⌜ r ≡ record { holda = cond (ltb channel 4) 15 (m .holda); holdb = cond (ltb channel 4) (m .holdb) 15; state = m .state; run = fed (m .run) } ⌝ }
 {
-    let run = fed(m.run);
+    let mut n = m;
+    let mut run = m.run;
+    run.watch = 0;
+    n.run = run;
     if channel < model::MODULE {
-        return Core {
-            holda: model::HOLD,
-            holdb: m.holdb,
-            state: m.state,
-            run,
-        };
+        n.holda = model::HOLD;
+        return n;
     }
-    Core {
-        holda: m.holda,
-        holdb: model::HOLD,
-        state: m.state,
-        run,
-    }
+    n.holdb = model::HOLD;
+    n
 }

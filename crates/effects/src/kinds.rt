@@ -1,12 +1,12 @@
 // The judgement of a command with a right check and good values, and what it does (document 01, "The machine").
-use super::Decided;
 use super::cores;
-use super::telling;
+use super::single;
 use commands::Init;
 use commands::Setting;
 use commands::Single;
 use commands::answers;
 use commands::idents;
+use decided::Decided;
 use model::Core;
 use model::Profile;
 ghost use mathlib.Core.Path.{_≡_};
@@ -14,16 +14,17 @@ ghost use Prim.Native.Nat.{_<_};
 ghost use Rattle.commands.specs.Commands.{Command.init, Command.update, Command.single};
 ghost use Rattle.model.specs.Effects.{accept};
 ghost use Rattle.model.specs.Arrival.{decided};
-ghost use Rattle.effects.specs.Deciding.{given, late};
+ghost use Rattle.decided.specs.Given.{given};
+ghost use Rattle.effects.specs.Deciding.{late};
 
 pub fn on_init(p: Profile, clock: u32, m: Core, v: Init) -> Decided
     ensures { λ r. ⌜ r ≡ given (late p clock m (init v)) ⌝ }
 {
     let answer = judgement::judge_init(p, v);
     if answer == answers::DONE {
-        return super::tell(clock, idents::INIT, answer, cores::running(v));
+        return decided::tell(clock, idents::INIT, answer, cores::running(v));
     }
-    telling::drop_frame(clock, idents::INIT, answer, m)
+    decided::drop_frame(clock, idents::INIT, answer, m)
 }
 
 pub fn on_update(p: Profile, clock: u32, m: Core, entries: [Setting; 8]) -> Decided
@@ -32,9 +33,9 @@ pub fn on_update(p: Profile, clock: u32, m: Core, entries: [Setting; 8]) -> Deci
     let settings = judgement::place(m.run.list.stim, entries);
     let answer = judgement::judge_update(p, m, settings);
     if answer == answers::DONE {
-        return super::tell(clock, idents::UPDATE, answer, cores::wait(m, settings));
+        return decided::tell(clock, idents::UPDATE, answer, cores::wait(m, settings));
     }
-    telling::drop_frame(clock, idents::UPDATE, answer, m)
+    decided::drop_frame(clock, idents::UPDATE, answer, m)
 }
 
 fn accept_single(clock: u32, m: Core, v: Single) -> Decided
@@ -43,9 +44,9 @@ fn accept_single(clock: u32, m: Core, v: Single) -> Decided
 {
     let held = cores::hold(m, v.channel);
     if schedule::is_felt(v.width, v.current) {
-        return telling::tell_pulse(clock, held, v.channel, v.width, v.current);
+        return single::tell_pulse(clock, held, v.channel, v.width, v.current);
     }
-    super::tell(clock, idents::SINGLE, answers::DONE, held)
+    decided::tell(clock, idents::SINGLE, answers::DONE, held)
 }
 
 pub fn on_single(p: Profile, clock: u32, m: Core, v: Single) -> Decided
@@ -56,5 +57,5 @@ pub fn on_single(p: Profile, clock: u32, m: Core, v: Single) -> Decided
     if answer == answers::DONE {
         return accept_single(clock, m, v);
     }
-    telling::drop_frame(clock, idents::SINGLE, answer, m)
+    decided::drop_frame(clock, idents::SINGLE, answer, m)
 }

@@ -18,7 +18,7 @@ use Rattle.frames.specs.declared.Fields.{Fields}
 use Rattle.frames.specs.Layout.{identIn, sizeFor, commandIn, checkIn}
 use Rattle.frames.specs.Bytes.{size}
 use Rattle.frames.specs.Reader.{later, hasHigh, shapeTests, valueTests, fieldsOf, found, refused, answered, judge, readFrame}
-use Rattle.frames.proofs.Shape.{shape-refuses}
+use Rattle.frames.proofs.Shaped.{shape-refuses}
 
 -- ---- the tests of shape
 
@@ -32,7 +32,7 @@ size-pos k count = sized (eqb k 0) (eqb k 1) (eqb k 2) where
   sized false false false = omega arith
 
 -- the bytes after the first, as a part of a slice
-later-part : (n : ℕ) (s : List ℕ) → take (n - 1) (drop 1 s) ≡ later n s
+pub later-part : (n : ℕ) (s : List ℕ) → take (n - 1) (drop 1 s) ≡ later n s
 later-part zero s = refl
 later-part (suc n) [] = take-nil (suc n - 1)
 later-part (suc n) (b ∷ s) = rw sub-one

@@ -1,4 +1,4 @@
-pub mod Shape
+pub mod Shaped
 pub mod Idents
 pub mod Rows
 pub mod Judging

@@ -9,7 +9,7 @@ use Rattle.commands.specs.declared.Init.{Init}
 use Rattle.commands.specs.declared.Setting.{Setting}
 use Rattle.commands.specs.declared.Single.{Single}
 use Rattle.commands.specs.Commands.{Command, Command.init, Command.update, Command.stop, Command.single, noSetting}
-use Rattle.frames.specs.declared.layout.Entry.{Entry}
+use Rattle.frames.specs.declared.Entry.{Entry}
 
 -- bits 6 and 5 of the first byte are the Ident
 abbrev pub identIn : List ℕ → ℕ

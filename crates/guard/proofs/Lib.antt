@@ -1,4 +1,1 @@
-pub mod Fresh
-pub mod Zero
-pub mod Filed
 pub mod Joined

@@ -32,17 +32,6 @@ pub fn judge_init(p: Profile, v: Init) -> u8
     answers::TIMING
 }
 
-// Settings for eight channels, all zero.
-fn silence() -> [Setting; 8]
-    ensures { λ r. ⌜ r ≡ silence ⌝ }
-{
-    [Setting {
-        mode: 0,
-        width: 0,
-        current: 0,
-    }; 8]
-}
-
 // The next entry for a listed channel, zero for any other.
 fn entry_for(listed: bool, entries: [Setting; 8], next: usize) -> Setting
     requires { ⌜ next < 8 ⌝ }
@@ -51,11 +40,7 @@ fn entry_for(listed: bool, entries: [Setting; 8], next: usize) -> Setting
     if listed {
         return entries[next];
     }
-    Setting {
-        mode: 0,
-        width: 0,
-        current: 0,
-    }
+    commands::NO_SETTING
 }
 
 // Which entry is next behind this channel.
@@ -70,7 +55,7 @@ fn entry_after(next: usize, listed: bool) -> usize
 pub fn place(stim: u8, entries: [Setting; 8]) -> [Setting; 8]
     ensures { λ r. ⌜ r ≡ placed stim entries ⌝ }
 {
-    let mut settings = silence();
+    let mut settings = model::SILENCE;
     let mut next = 0;
     let mut i = 0;
     while i < 8 {
@@ -88,8 +73,7 @@ pub fn judge_update(p: Profile, m: Core, settings: [Setting; 8]) -> u8
     ensures { λ r. ⌜ r ≡ firstOf (6 when not (isRunning m) ∷ 5 when not (updateTiming (m .run .list) settings) ∷ 9 when overLimits p settings ∷ []) ⌝ }
 {
     if m.state == model::RUNNING {
-        let v = m.run.list;
-        if timing::update_timing(v, settings) {
+        if timing::update_timing(m.run.list, settings) {
             if limits::over_limits(p, settings) {
                 return answers::OVER_LIMIT;
             }
@@ -104,7 +88,7 @@ pub fn judge_update(p: Profile, m: Core, settings: [Setting; 8]) -> u8
 fn single_settings(v: Single) -> [Setting; 8]
     ensures { λ r. ⌜ r ≡ set silence (v .channel) (record { mode = 0; width = v .width; current = v .current }) ⌝ }
 {
-    let mut settings = silence();
+    let mut settings = model::SILENCE;
     let channel = v.channel as usize;
     if channel < 8 {
         settings[channel] = Setting {

@@ -1,11 +1,11 @@
 // The box lent by reference and changed where it lies: each call is the call by value, its box stored. Exported, in the layout that
-// the head of `boundary` tells; a crate of its own, as its walks take long to check.
-use machine::Said;
+// the head of `box_exports` tells; a crate of its own, as its walks take long to check.
 use record::Box;
+use said::Said;
 use trace::Part;
 ghost use mathlib.Core.Path.{_≡_};
 ghost use Rattle.model.specs.Machine.{Call.byte, Call.tick};
-ghost use Rattle.guard.specs.Calls.{callOf};
+ghost use Rattle.calls.specs.Calls.{callOf};
 
 #[no_mangle]
 pub extern "C" fn yarrowbell_byte_in_place(b: &mut Box, buf: &mut [u8], at: Part, n: u8) -> Said

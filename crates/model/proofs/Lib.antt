@@ -1,4 +1,5 @@
 pub mod Tests
+pub mod States
 pub mod Below
 pub mod Turns
 pub mod GoodRuns

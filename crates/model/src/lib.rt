@@ -25,6 +25,20 @@ pub struct Run {
     pub watch: u32,
 }
 
+// Settings for eight channels, all zero.
+pub const SILENCE: [Setting; 8] = [commands::NO_SETTING; 8];
+
+// What a box has that is not running.
+pub const STILL: Run = Run {
+    list: commands::NO_INIT,
+    settings: SILENCE,
+    waits: 0,
+    waiting: SILENCE,
+    position: 0,
+    cycle: 0,
+    watch: 0,
+};
+
 // The states.
 pub const IDLE: u8 = 0;
 

@@ -61,11 +61,10 @@ fn is_due(r: Run, i: usize, x: Setting, from: u32) -> bool
     requires { ⌜ from ≤ 1000 ⌝ }
     ensures { λ o. ⌜ o ≡ inSet (r .list .stim) i && inTurn (r .list) (r .cycle) i && felt (x .width) (x .current) && hits (r .position) from (t2 (r .list .group)) (x .mode) ⌝ }
 {
-    let v = r.list;
-    if timing::listed(v.stim, i) & is_felt(x.width, x.current) {
-        let t = timing::group_period(v.group);
+    if timing::listed(r.list.stim, i) & is_felt(x.width, x.current) {
+        let t = timing::group_period(r.list.group);
         if hit(r.position as u32, from, t, x.mode) {
-            return in_turn(v, r.cycle, i);
+            return in_turn(r.list, r.cycle, i);
         }
         return false;
     }
@@ -85,7 +84,6 @@ fn due_from(r: Run, first: usize, offset: u32) -> usize
     requires { ⌜ ((first ≡ 0) × (offset ≡ 0)) ⊎ ((first ≡ 4) × (offset ≡ 6)) ⌝ }
     ensures { λ o. ⌜ o ≡ firstDue r first 4 ⌝ }
 {
-    let v = r.list;
     let settings = r.settings;
     let mut from = offset;
     let mut n = 0;
@@ -95,7 +93,7 @@ fn due_from(r: Run, first: usize, offset: u32) -> usize
         if is_due(r, i, x, from) {
             return i;
         }
-        from = next_slot(from, timing::listed(v.stim, i));
+        from = next_slot(from, timing::listed(r.list.stim, i));
         n += 1;
     }
     NONE

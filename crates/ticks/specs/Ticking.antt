@@ -10,10 +10,10 @@ use Rattle.model.specs.declared.Run.{Run}
 use Rattle.model.specs.declared.Core.{Core}
 use Rattle.model.specs.Effects.{Done}
 use Rattle.record.specs.declared.Box.{Box}
-use Rattle.machine.specs.declared.Released.{Released}
-use Rattle.machine.specs.declared.Records.{Records}
-use Rattle.machine.specs.declared.Stepped.{Stepped}
-use Rattle.machine.specs.Said.{nothing, released, pulseRecord, pulseOf, recordsOf}
+use Rattle.said.specs.declared.Released.{Released}
+use Rattle.said.specs.declared.Records.{Records}
+use Rattle.outcome.specs.declared.Stepped.{Stepped}
+use Rattle.said.specs.Said.{nothing, released, pulseRecord, pulseOf, recordsOf}
 
 -- the partial frame stays
 abbrev pub withCore : Box → ℕ → Core → Box

@@ -34,7 +34,7 @@ pub fn put_init(v: Init, out: &mut [u8])
     requires { ⌜ (good (init v) ≡ true) × (6 ≤ length (now out)) ⌝ }
     ensures { λ _. ⌜ now (out .exit) ≡ sets (now (out .entry)) 0 (frame (init v)) ⌝ }
 {
-    let w = init_number(commands::check_init(v), v);
+    let w = init_number(checks::check_init(v), v);
     out[0] = bits::take_field(w, 35, 8) as u8;
     out[1] = bits::take_field(w, 28, 7) as u8;
     out[2] = bits::take_field(w, 21, 7) as u8;
@@ -78,7 +78,7 @@ pub fn put_update(count: usize, entries: [Setting; 8], out: &mut [u8])
     requires { ⌜ (good (update count entries) ≡ true) × (1 + 3 * count ≤ length (now out)) ⌝ }
     ensures { λ _. ⌜ now (out .exit) ≡ sets (now (out .entry)) 0 (frame (update count entries)) ⌝ }
 {
-    out[0] = head_of(idents::UPDATE, commands::check_update(entries));
+    out[0] = head_of(idents::UPDATE, checks::check_update(entries));
     put_settings(count, entries, out);
 }
 
@@ -86,7 +86,7 @@ pub fn put_single(v: Single, out: &mut [u8])
     requires { ⌜ (good (single v) ≡ true) × (4 ≤ length (now out)) ⌝ }
     ensures { λ _. ⌜ now (out .exit) ≡ sets (now (out .entry)) 0 (frame (single v)) ⌝ }
 {
-    out[0] = head_of(idents::SINGLE, commands::check_single(v));
+    out[0] = head_of(idents::SINGLE, checks::check_single(v));
     put_entry(
         frames::CHANNEL_BIT,
         v.channel,

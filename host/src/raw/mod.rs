@@ -1,4 +1,4 @@
-//! The exports of the library `boundary` as the C ABI of x86-64 Linux has them.
+//! The exports of the libraries as the C ABI of x86-64 Linux has them.
 //!
 //! Nothing compares these declarations with the library's source. Both sides rely on this:
 //!

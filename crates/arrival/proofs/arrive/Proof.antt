@@ -11,7 +11,7 @@ is-high-requires : tie.Need-is-high-requires
 is-high-requires c κs = search needs
 
 open-frame-requires : tie.Need-open-frame-requires
-open-frame-requires c κs = leb-true _ _ (sym (c .before .is-high .ensures) ∙ c .if1 .taken)
+open-frame-requires c κs = leb-true 128 (c .before .before .args .n) (sym (c .before .is-high .ensures) ∙ c .if1 .taken)
 
 returns : tie.Need-returns
 unfolding step byteStep arrive stateOf

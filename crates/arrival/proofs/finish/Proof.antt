@@ -1,4 +1,4 @@
-use mathlib.Core.Path.{_≡_, sym}
+use mathlib.Core.Path.{_≡_, sym, _∙_}
 use native.Mathlib.Omega.{arith}
 use lib.ListN.{length, take}
 use lib.Seq.{length-take-le}
@@ -11,10 +11,10 @@ sized : (c : tie.Start) → length (c .args .q .bytes) ≡ 25
 sized c = search needs
 
 array-share-prefix-bytes : tie.Need-array-share-prefix-bytes
-array-share-prefix-bytes c = let s = c .before .before .before in omega (arith, sized s, s .pre .0)
+array-share-prefix-bytes c = let s = c .before in omega (arith, sized s, s .pre .0)
 
 slice-aggregate-decide : tie.Need-slice-aggregate-decide
-slice-aggregate-decide c = let s = c .before .before .before .before in sym (length-take-le (s .args .q .len) (s .args .q .bytes) (omega (arith, sized s, s .pre .0)))
+slice-aggregate-decide c = let s = c .before .before in sym (length-take-le (s .args .q .len) (s .args .q .bytes) (omega (arith, sized s, s .pre .0)))
 
 decide-requires : tie.Need-decide-requires
 decide-requires c κs = search needs
@@ -24,8 +24,8 @@ settle-requires c κs = search needs
 
 returns : tie.Need-returns
 returns c =
-    let s = c .before .before .before .before .before .before in
-    cc (whole-settled (s .args .b) (take (s .args .q .len) (s .args .q .bytes)) (s .pre .1))
+    let s = c .before .before .before .before in
+    c .settle .ensures ∙ rw (c .before .decide .ensures) (whole-settled (s .args .b) (take (s .args .q .len) (s .args .q .bytes)) (s .pre .1))
 
 pub finish-spec : {M : Type 1} → statement M
 finish-spec =

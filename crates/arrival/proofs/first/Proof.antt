@@ -1,5 +1,6 @@
+use mathlib.Core.Path.{refl}
 use borrow.Author.Needs.{needs}
-use Rattle.record.specs.Box.{frameOf}
+use Rattle.partial.specs.Partial.{frameOf}
 use Rattle.arrival.proofs.first.Statement.{statement}
 use Rattle.arrival.proofs.first.Tie as tie
 
@@ -8,7 +9,7 @@ array-write-bytes c = search needs
 
 returns : tie.Need-returns
 unfolding frameOf
-returns c = cc
+returns c = refl
 
 pub first-spec : {M : Type 1} → statement M
 first-spec = tie.close (tie.spec array-write-bytes returns)

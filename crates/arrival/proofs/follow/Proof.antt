@@ -16,17 +16,17 @@ refuse-requires c κs = search needs
 returns : tie.Need-returns
 unfolding stateOf
 returns c =
-    let s = c .before .before .before .before in
+    let s = c .before .before .before in
     c .refuse .ensures ∙ strays (s .args .b) (sized s) (s .pre .0) (s .args .n) (c .before .if1 .taken)
 
 grow-requires : tie.Need-grow-requires
 grow-requires c κs =
-    let s = c .before .before .before in
+    let s = c .before .before in
     followed-by (s .args .b) (sized s) (s .pre .0) (s .args .n) (c .if1 .left) .room
 
 finish-requires : tie.Need-finish-requires
 finish-requires c κs =
-    let s = c .before .before .before .before .before .before in
+    let s = c .before .before .before .before .before in
     let grow = c .before .before .grow in
     let f = followed-by (s .args .b) (sized s) (s .pre .0) (s .args .n) (c .before .before .before .if1 .left) in
     ready (grow .result) (longer (s .args .b) (s .args .n)) (grow .ensures ∙ f .grows) (f .fits)
@@ -35,7 +35,7 @@ finish-requires c κs =
 returns-2 : tie.Need-returns-2
 unfolding stateOf
 returns-2 c =
-    let s = c .before .before .before .before .before .before .before in
+    let s = c .before .before .before .before .before .before in
     let grow = c .before .before .before .grow in
     let f = followed-by (s .args .b) (sized s) (s .pre .0) (s .args .n) (c .before .before .before .before .if1 .left) in
     let bytes = used-by (grow .result) (longer (s .args .b) (s .args .n)) (grow .ensures ∙ f .grows) in
@@ -47,7 +47,7 @@ keep-requires c κs = search needs
 returns-3 : tie.Need-returns-3
 unfolding stateOf
 returns-3 c =
-    let s = c .before .before .before .before .before .before .before in
+    let s = c .before .before .before .before .before .before in
     let grow = c .before .before .before .grow in
     let f = followed-by (s .args .b) (sized s) (s .pre .0) (s .args .n) (c .before .before .before .before .if1 .left) in
     c .keep .ensures

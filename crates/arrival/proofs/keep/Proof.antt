@@ -9,7 +9,7 @@ none-requires : tie.Need-none-requires
 none-requires c κs = search needs
 
 returns : tie.Need-returns
-returns c = cc
+returns c = rw (c .none .ensures, c .before .say .ensures)
 
 pub keep-spec : {M : Type 1} → statement M
 keep-spec = tie.close (tie.spec say-requires none-requires returns)

@@ -30,7 +30,7 @@ returns-2 : tie.Need-returns-2
 returns-2 c =
     let a = c .before .before .before .before .before .args in
     let opens = opens-init (a .b .core) (a .n) (sym (c .before .before .before .before .ident-of .ensures) ∙ c .before .before .if2 .taken) in
-    rw opens (cc (kept-as (a .b) (record { bytes = a .n ∷ []; size = 6 })))
+    rw opens (c .keep .ensures ∙ rw (c .before .first .ensures) (kept-as (a .b) (record { bytes = a .n ∷ []; size = 6 })))
 
 first-requires-2 : tie.Need-first-requires-2
 first-requires-2 c κs = search needs
@@ -64,7 +64,7 @@ returns-4 c =
     (λ e. c .before .before .before .before .if1 .left (i ∙ e))
     (λ e. c .before .before .if3 .left (i ∙ e)) in
     let opens = opens-single (a .b .core) (a .n) is-single in
-    rw opens (cc (kept-as (a .b) (record { bytes = a .n ∷ []; size = 4 })))
+    rw opens (c .keep2 .ensures ∙ rw (c .before .first3 .ensures) (kept-as (a .b) (record { bytes = a .n ∷ []; size = 4 })))
 
 pub open-frame-spec : {M : Type 1} → statement M
 open-frame-spec =

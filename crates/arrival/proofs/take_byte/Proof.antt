@@ -1,7 +1,7 @@
 use mathlib.Core.Path.{_∙_}
 use borrow.Author.Needs.{needs}
 use Rattle.model.specs.Machine.{Call.byte}
-use Rattle.machine.proofs.Calls.{good-taken, call-taken, call-refused}
+use Rattle.outcome.proofs.Calls.{good-taken, call-taken, call-refused}
 use Rattle.arrival.proofs.take_byte.Statement.{statement}
 use Rattle.arrival.proofs.take_byte.Tie as tie
 

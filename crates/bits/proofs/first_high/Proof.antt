@@ -1,6 +1,6 @@
 -- The place so far and the search of the rest make the whole search.
 use Prim.Native.Nat.{_+_, _-_, _≤_}
-use mathlib.Core.Path.{_≡_}
+use mathlib.Core.Path.{_≡_, sym, _∙_}
 use native.Mathlib.Omega.{arith}
 use borrow.Author.Needs.{needs}
 use lib.ListN.{length, drop}
@@ -28,7 +28,7 @@ returns : tie.Need-returns Inv-loop μ-loop
 returns c =
     let i = c .before .before .before .before .loop in
     let s = c .before .before .before .before .before .before .args .s .now in
-    omega (arith, i .inv .1, high-here s (i .i) (c .before .before .before .loop-test .taken) (cc))
+    omega (arith, i .inv .1, high-here s (i .i) (c .before .before .before .loop-test .taken) (sym (c .before .is-high .ensures) ∙ c .if1 .taken))
 
 add-i : tie.Need-add-i Inv-loop μ-loop
 add-i c = search needs
@@ -40,7 +40,7 @@ loop-again : tie.Need-loop-again Inv-loop μ-loop
 loop-again c =
     let i = c .before .before .before .before .loop in
     let s = c .before .before .before .before .before .before .args .s .now in
-    (omega arith, omega (arith, i .inv .1, high-on s (i .i) (c .before .before .before .loop-test .taken) (cc)))
+    (omega arith, omega (arith, i .inv .1, high-on s (i .i) (c .before .before .before .loop-test .taken) (sym (c .before .is-high .ensures) ∙ c .if1 .left)))
 
 returns-2 : tie.Need-returns-2 Inv-loop μ-loop
 returns-2 c = omega (arith, c .before .loop .inv .1, high-end (c .before .before .before .args .s .now) (c .before .loop .i) (c .loop-test .left))

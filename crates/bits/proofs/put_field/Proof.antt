@@ -1,3 +1,4 @@
+use mathlib.Core.Path.{_∙_}
 use borrow.Author.Needs.{needs}
 use native.Mathlib.Omega.{arith}
 use native.Mathlib.Nat.{mod-lt}
@@ -20,7 +21,7 @@ joined-requires c κs =
 
 returns-2 : tie.Need-returns-2
 unfolding below
-returns-2 c = cc
+returns-2 c = c .joined .ensures ∙ rw (c .before .low-bits .ensures)
 
 pub put-field-spec : {M : Type 1} → statement M
 put-field-spec = tie.close (tie.spec returns low-bits-requires joined-requires returns-2)

@@ -23,7 +23,7 @@ low-bits-requires : tie.Need-low-bits-requires
 low-bits-requires c κs = search needs
 
 returns-3 : tie.Need-returns-3
-returns-3 c = cc
+returns-3 c = c .low-bits .ensures ∙ rw (c .before .bits-from2 .ensures)
 
 pub take-field-spec : {M : Type 1} → statement M
 take-field-spec =

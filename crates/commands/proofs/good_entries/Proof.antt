@@ -42,7 +42,7 @@ loop-again c =
     let start = c .before .before .before .before .before in
     let a = start .args in
     let t = good-turn (a .t1) (l .i) (a .count) (omega (arith, start .good)) in
-    let g : goodEntry (getD (a .t1) (l .i) noSetting) (ltb (l .i) (a .count)) ≡ true = cc in
+    let g : goodEntry (getD (a .t1) (l .i) noSetting) (ltb (l .i) (a .count)) ≡ true = sym (c .before .good-entry .ensures) ∙ c .if1 .taken in
     (omega arith, sym (rw g at t) ∙ l .inv .1)
 
 returns : tie.Need-returns Inv-loop μ-loop
@@ -51,7 +51,7 @@ returns c =
     let start = c .before .before .before .before .before in
     let a = start .args in
     let t = good-turn (a .t1) (l .i) (a .count) (omega (arith, start .good)) in
-    let g : goodEntry (getD (a .t1) (l .i) noSetting) (ltb (l .i) (a .count)) ≡ false = cc in
+    let g : goodEntry (getD (a .t1) (l .i) noSetting) (ltb (l .i) (a .count)) ≡ false = sym (c .before .good-entry .ensures) ∙ c .if1 .left in
     sym (rw g at t) ∙ l .inv .1
 
 returns-2 : tie.Need-returns-2 Inv-loop μ-loop

@@ -12,7 +12,7 @@ is-within-requires-2 : tie.Need-is-within-requires-2
 is-within-requires-2 c κs = search needs
 
 returns : tie.Need-returns
-returns c = cc
+returns c = rw (c .before .is-within .ensures, c .is-within2 .ensures)
 
 pub good-init-spec : {M : Type 1} → statement M
 good-init-spec =

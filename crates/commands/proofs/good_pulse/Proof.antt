@@ -6,7 +6,7 @@ is-within-requires : tie.Need-is-within-requires
 is-within-requires c κs = search needs
 
 returns : tie.Need-returns
-returns c = cc
+returns c = rw (c .is-within .ensures)
 
 pub good-pulse-spec : {M : Type 1} → statement M
 good-pulse-spec = tie.close (tie.spec is-within-requires returns)

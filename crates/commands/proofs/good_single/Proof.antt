@@ -6,7 +6,7 @@ good-pulse-requires : tie.Need-good-pulse-requires
 good-pulse-requires c κs = search needs
 
 returns : tie.Need-returns
-returns c = cc
+returns c = rw (c .good-pulse .ensures)
 
 pub good-single-spec : {M : Type 1} → statement M
 good-single-spec = tie.close (tie.spec good-pulse-requires returns)

@@ -9,7 +9,7 @@ good-entries-requires : tie.Need-good-entries-requires
 good-entries-requires c κs = search needs
 
 returns : tie.Need-returns
-returns c = cc
+returns c = rw (c .before .good-count .ensures, c .good-entries .ensures)
 
 pub good-update-spec : {M : Type 1} → statement M
 good-update-spec = tie.close (tie.spec good-count-requires good-entries-requires returns)

@@ -1,3 +1,4 @@
+use mathlib.Core.Path.{_∙_}
 use borrow.Author.Needs.{needs}
 use Rattle.effects.proofs.Bytes.{channel-fits}
 use Rattle.effects.proofs.decide.Statement.{statement}
@@ -19,7 +20,9 @@ decide-read-requires : tie.Need-decide-read-requires
 decide-read-requires c κs = rw (c .read-frame .ensures) (channel-fits _ _)
 
 returns : tie.Need-returns
-returns c = cc
+returns c =
+    c .decide-read .ensures
+    ∙ rw (c .before .read-frame .ensures, c .before .before .told-count .ensures, c .before .before .before .ident-of .ensures, c .before .before .before .before .first-byte .ensures)
 
 pub decide-spec : {M : Type 1} → statement M
 decide-spec =

@@ -10,7 +10,7 @@ drop-frame-requires c κs = search needs
 
 returns : tie.Need-returns
 unfolding decideRead
-returns c = simp (eq-eqb _ _ (c .before .if1 .taken)) (cc)
+returns c = simp (eq-eqb _ _ (c .before .if1 .taken)) (c .drop-frame .ensures)
 
 is-shut-requires : tie.Need-is-shut-requires
 is-shut-requires c κs = search needs
@@ -23,7 +23,7 @@ unfolding decideRead
 returns-2 c =
     let right = ne-eqb _ _ (c .before .before .before .if1 .left) in
     let shut = sym (c .before .before .is-shut .ensures) ∙ c .before .if2 .taken in
-    simp (right, shut) (cc)
+    simp (right, shut) (c .drop-frame2 .ensures)
 
 on-command-requires : tie.Need-on-command-requires
 on-command-requires c κs = search needs
@@ -33,7 +33,7 @@ unfolding decideRead
 returns-3 c =
     let right = ne-eqb _ _ (c .before .before .before .before .before .if1 .left) in
     let open-to = sym (c .before .before .before .before .is-shut .ensures) ∙ c .before .before .before .if2 .left in
-    simp (right, open-to, eq-eqb _ _ (c .before .if3 .taken)) (cc)
+    simp (right, open-to, eq-eqb _ _ (c .before .if3 .taken)) (c .on-command .ensures)
 
 drop-frame-requires-3 : tie.Need-drop-frame-requires-3
 drop-frame-requires-3 c κs = search needs
@@ -43,7 +43,7 @@ unfolding decideRead
 returns-4 c =
     let right = ne-eqb _ _ (c .before .before .before .before .before .if1 .left) in
     let open-to = sym (c .before .before .before .before .is-shut .ensures) ∙ c .before .before .before .if2 .left in
-    simp (right, open-to, ne-eqb _ _ (c .before .if3 .left)) (cc)
+    simp (right, open-to, ne-eqb _ _ (c .before .if3 .left)) (c .drop-frame3 .ensures)
 
 pub decide-read-spec : {M : Type 1} → statement M
 decide-read-spec =

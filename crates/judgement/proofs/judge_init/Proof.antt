@@ -17,16 +17,16 @@ returns : tie.Need-returns
 returns c =
     let timely = sym (c .before .before .before .before .init-timing .ensures) ∙ c .before .before .before .if1 .taken in
     let short = lt-ltb _ _ (rw (c .before .before .main-period .ensures) at (c .if2 .taken)) in
-    simp (timely, short) (cc)
+    simp (timely, short)
 
 returns-2 : tie.Need-returns-2
 returns-2 c =
     let timely = sym (c .before .before .before .before .init-timing .ensures) ∙ c .before .before .before .if1 .taken in
     let long = le-ltb _ _ (rw (c .before .before .main-period .ensures) at (c .if2 .left)) in
-    simp (timely, long) (cc)
+    simp (timely, long)
 
 returns-3 : tie.Need-returns-3
-returns-3 c = simp (sym (c .before .init-timing .ensures) ∙ c .if1 .left) (cc)
+returns-3 c = simp (sym (c .before .init-timing .ensures) ∙ c .if1 .left)
 
 pub judge-init-spec : {M : Type 1} → statement M
 judge-init-spec =

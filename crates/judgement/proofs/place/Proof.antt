@@ -1,5 +1,5 @@
 use Prim.Native.Nat.{_-_, _≤_}
-use mathlib.Core.Path.{_≡_, refl, sym, _∙_, ap}
+use mathlib.Core.Path.{_≡_, refl, sym, _∙_}
 use native.Mathlib.Nat.{zero-add}
 use native.Mathlib.Omega.{arith}
 use lib.ListN.{length, length-set}
@@ -17,12 +17,9 @@ Inv-loop stim entries settings₀ next₀ i₀ settings next i =
 abbrev μ-loop : tie.MeasureT-loop
 μ-loop stim entries settings₀ next₀ i₀ settings next i = 8 - i
 
-silence-requires : tie.Need-silence-requires Inv-loop μ-loop
-silence-requires c κs = search needs
-
 loop-holds : tie.Need-loop-holds Inv-loop μ-loop
 unfolding many
-loop-holds c = (omega arith, ap length (c .silence .ensures), refl, omega arith, c .silence .ensures)
+loop-holds c = (omega arith, refl, refl, omega arith, refl)
 
 listed-requires : tie.Need-listed-requires Inv-loop μ-loop
 listed-requires c κs = search needs
@@ -48,7 +45,7 @@ loop-less c = search needs
 loop-again : tie.Need-loop-again Inv-loop μ-loop
 loop-again c =
     let l = c .before .before .before .before .loop in
-    let a = c .before .before .before .before .before .before .args in
+    let a = c .before .before .before .before .before .args in
     let here = c .before .before .listed .ensures in
     let counted = many-turn (l .i) (a .stim) 0 (c .before .before .listed .result) (rw zero-add here) in
     let placed = place-turn (a .stim) (a .entries) (l .settings) (l .i) (c .before .before .before .loop-test .taken) (l .inv .4) in (
@@ -56,13 +53,13 @@ loop-again c =
       rw length-set (l .inv .1),
       c .entry-after .ensures .0 ∙ rw (l .inv .2) (sym counted),
       omega arith,
-      rw (c .before .entry-for .ensures, here, l .inv .2) placed,
+      simp (c .before .entry-for .ensures, here, l .inv .2) placed,
     )
 
 returns : tie.Need-returns Inv-loop μ-loop
 returns c =
     let l = c .before .loop in
-    let a = c .before .before .before .args in
+    let a = c .before .before .args in
     let e : l .i ≡ 8 = omega arith in
     place-end (a .stim) (a .entries) (l .settings) (rw e at (l .inv .4))
 
@@ -72,7 +69,6 @@ place-spec =
     (tie.spec
     Inv-loop
     μ-loop
-    silence-requires
     loop-holds
     listed-requires
     entry-for-requires

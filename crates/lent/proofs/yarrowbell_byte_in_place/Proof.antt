@@ -43,19 +43,19 @@ use denote.Triple.Walked.{says, Stays, stay-ref, stay-none, gave-slice, walkOf, 
 use denote.Exit.{yes}
 use denote.Signature.{plain}
 use Rattle.record.specs.declared.Box.{Box}
-use Rattle.guard.specs.declared.Called.{Called}
+use Rattle.calls.specs.declared.Called.{Called}
 use Rattle.trace.specs.declared.Part.{Part}
 use Rattle.model.specs.Machine.{Call.byte}
-use Rattle.guard.specs.Calls.{callOf}
+use Rattle.calls.specs.Calls.{callOf}
 use Rattle.record.proofs.Box as T
 use Rattle.record.proofs.Box.Laws as T′
-use Rattle.machine.proofs.Said as S
-use Rattle.machine.proofs.Said.Laws as S′
+use Rattle.said.proofs.Said as S
+use Rattle.said.proofs.Said.Laws as S′
 use Rattle.trace.proofs.Part as P
 use Rattle.trace.proofs.Part.Laws as P′
-use Rattle.lent.proofs.Values.{box-val, part-val, said-val, is-said, is-next}
-use Rattle.guard.proofs.Called as K
-use Rattle.guard.proofs.Called.Laws as K′
+use Rattle.lent.proofs.Values.{box-val, part-val, said-val, said-at, next-at, is-said, is-next}
+use Rattle.calls.proofs.Called as K
+use Rattle.calls.proofs.Called.Laws as K′
 use Rattle.guard.proofs.byte as g
 use Rattle.guard.proofs.byte.Symbol as g-def
 use Rattle.guard.proofs.byte.Symbol.{name as #guard·byte}
@@ -142,8 +142,8 @@ module _ {M : Type 1} (𝓤 : URA M) (H : Heap 𝓤) (A : Atoms 𝓤) (W : Given
         move ! (2 ∷ []) $ split ! $ move ! (1 ∷ []) $ peeks ! K.the-row (Is K.the-row) (shows 𝓤 H A K.the-row) r (w ∷ []) (λ is. drop ! $
         -- [the buffer's token; the last list; …; …; the box's cell (4); the open borrow; obs; auth; _8 (8); …; room for _0 (24); …]
         land ! (from ! (stop !)) (init ! 14 refl (LL.lawful K.the-type K′.the-laws 𝓤 H A W .typed r _ is .0)) $ rewrite ! 14 (λ (u : Val). ‵ (fat fullShare K′.mir l₅ 0 u)) (ap only (LL.tells K.the-type K′.the-laws r _ is)) refl $
-        assigns ! (of-opd ! (load ! (from ! (fld ! refl (stop !))) (look-in ! 14 (sub ! 1 refl (whole !))))) (from ! (hop ! (look ! 22 refl) (stop !))) (store-raw ! 4 refl (LL.lawful T.the-type T′.the-laws 𝓤 H A W .typed (r .next) _ (is-next r _ is) .0)) $
-        assigns ! (of-opd ! (load ! (from ! (fld ! refl (stop !))) (look-in ! 14 (sub ! 0 refl (whole !))))) (from ! (stop !)) (init ! 24 refl (LL.lawful S.the-type S′.the-laws 𝓤 H A W .typed (r .said) _ (is-said r _ is) .0)) $
+        assigns ! (of-opd ! (load ! (from ! (fld ! next-at (stop !))) (look-in ! 14 (sub ! 1 next-at (whole !))))) (from ! (hop ! (look ! 22 refl) (stop !))) (store-raw ! 4 refl (LL.lawful T.the-type T′.the-laws 𝓤 H A W .typed (r .next) _ (is-next r _ is) .0)) $
+        assigns ! (of-opd ! (load ! (from ! (fld ! said-at (stop !))) (look-in ! 14 (sub ! 0 said-at (whole !))))) (from ! (stop !)) (init ! 24 refl (LL.lawful S.the-type S′.the-laws 𝓤 H A W .typed (r .said) _ (is-said r _ is) .0)) $
         -- the borrow is closed at the next box
         owned ! T.the-row (Is T.the-row) (LL.makes T.the-type T′.the-plain 𝓤 H A) (r .next) _ (is-next r _ is) $ move ! (5 ∷ 0 ∷ 6 ∷ 7 ∷ 8 ∷ []) $ closes ! tt T.the-row (r .next) (box-val (r .next) ∷ []) b o $
         returns ! (look ! 23 refl) $ forget ! 7 refl $ forget ! 9 refl $ forget ! 11 refl $ forget ! 13 refl $ forget ! 15 refl $ forget ! 17 refl $ forget ! 19 refl $ forget ! 21 refl $ forget ! 23 refl $

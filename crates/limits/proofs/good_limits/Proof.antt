@@ -40,7 +40,7 @@ loop-again : tie.Need-loop-again Inv-loop μ-loop
 loop-again c =
     let l = c .before .loop in
     let p = c .before .before .before .before .args .p in
-    (search needs, cc (all-turn (l .i) (goodLimits p)))
+    (search needs, rw (all-turn (l .i) (goodLimits p), l .inv .1))
 
 returns : tie.Need-returns Inv-loop μ-loop
 returns c =

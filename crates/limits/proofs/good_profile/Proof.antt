@@ -8,7 +8,7 @@ good-limits-requires c κs = search needs
 
 returns : tie.Need-returns
 unfolding goodProfile
-returns c = cc
+returns c = rw (c .before .before .before .before .before .good-limits .ensures)
 
 pub good-profile-spec : {M : Type 1} → statement M
 good-profile-spec = tie.close (tie.spec good-limits-requires returns)

@@ -1,4 +1,5 @@
 use Prim.Native.Nat.{_≤_}
+use mathlib.Core.Path.{refl}
 use native.Mathlib.Nat.{mul-le-mul}
 use native.Mathlib.Omega.{arith}
 use borrow.Author.Needs.{needs}
@@ -30,7 +31,7 @@ array-read-result-2 c = search needs
 
 returns : tie.Need-returns
 unfolding overAt
-returns c = cc
+returns c = refl
 
 pub over-at-spec : {M : Type 1} → statement M
 over-at-spec =

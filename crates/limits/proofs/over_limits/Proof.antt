@@ -39,7 +39,7 @@ loop-again : tie.Need-loop-again Inv-loop μ-loop
 loop-again c =
     let l = c .before .before .before .loop in
     let a = c .before .before .before .before .args in
-    (search needs, cc (some-turn (l .i) (λ k. overAt (a .p) k (getD (a .t2) k noSetting))))
+    (search needs, rw (some-turn (l .i) (λ k. overAt (a .p) k (getD (a .t2) k noSetting)), l .inv .1, c .over-at .ensures))
 
 returns : tie.Need-returns Inv-loop μ-loop
 unfolding overLimits

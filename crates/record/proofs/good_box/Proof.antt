@@ -1,4 +1,5 @@
 use Prim.Native.Nat.{_≤_}
+use mathlib.Core.Path.{sym}
 use borrow.Author.Needs.{needs}
 use Rattle.record.proofs.Joins.{box-joined}
 use Rattle.record.proofs.good_box.Statement.{statement}
@@ -21,8 +22,10 @@ good-partial-requires c κs = search needs
 
 returns : tie.Need-returns
 returns c =
-    let start = c .before .before .before .before .before .before .before .before in
-    cc (box-joined (start .args .b) (clock-fits start))
+    let profile = c .before .before .before in
+    let start = profile .before in
+    rw (c .good-partial .ensures, c .before .good-core .ensures, c .before .before .good-ring .ensures, profile .good-profile .ensures)
+    (sym (box-joined (start .args .b) (clock-fits start)))
 
 pub good-box-spec : {M : Type 1} → statement M
 good-box-spec =

@@ -10,7 +10,7 @@ use Rattle.schedule.proofs.due_from.Statement.{statement}
 use Rattle.schedule.proofs.due_from.Tie as tie
 
 abbrev Inv-loop : tie.InvT-loop
-Inv-loop r first offset v settings from₀ n₀ from n =
+Inv-loop r first offset settings from₀ n₀ from n =
     (n ≤ 4)
     × (first ≤ 4)
     × (from ≡ 15 * many (r .list .stim) first n + offset)
@@ -18,12 +18,12 @@ Inv-loop r first offset v settings from₀ n₀ from n =
     × (firstDue r (first + n) (4 - n) ≡ firstDue r first 4)
 
 abbrev μ-loop : tie.MeasureT-loop
-μ-loop r first offset v settings from₀ n₀ from n = 4 - n
+μ-loop r first offset settings from₀ n₀ from n = 4 - n
 
 loop-holds : tie.Need-loop-holds Inv-loop μ-loop
 unfolding many
 loop-holds c =
-    let start = c .before .before in
+    let start = c .before in
     let m = module-le _ _ (start .pre) in
     let e : start .args .first + 0 ≡ start .args .first = omega arith in
     (omega arith, omega arith, omega arith, omega arith, rw e)
@@ -43,7 +43,7 @@ is-due-requires c κs = search needs
 returns : tie.Need-returns Inv-loop μ-loop
 returns c =
     let l = c .before .before .before .before .loop in
-    let start = c .before .before .before .before .before .before .before in
+    let start = c .before .before .before .before .before .before in
     let a = start .args in
     let t = due-turn (a .r) (a .first) (l .n) (a .offset) (l .from) (start .pre) (omega arith) (l .inv .2) in
     sym (rw (← c .before .is-due .ensures, c .if1 .taken) at t) ∙ l .inv .4
@@ -63,7 +63,7 @@ loop-less c = search needs
 loop-again : tie.Need-loop-again Inv-loop μ-loop
 loop-again c =
     let l = c .before .before .before .before .before .before .loop in
-    let start = c .before .before .before .before .before .before .before .before .before in
+    let start = c .before .before .before .before .before .before .before .before in
     let a = start .args in
     let t = due-turn (a .r) (a .first) (l .n) (a .offset) (l .from) (start .pre) (omega arith) (l .inv .2) in
     let s = next-is (a .r .list .stim) (a .first) (l .n) (a .offset) (l .from) (l .inv .2) in

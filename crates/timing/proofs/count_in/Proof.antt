@@ -2,7 +2,7 @@
 use Prim.Native.Nat.{_-_, _≤_}
 use mathlib.Core.Logic.{⊎-elim}
 use mathlib.Core.Bool.{true, false}
-use mathlib.Core.Path.{_≡_}
+use mathlib.Core.Path.{_≡_, sym, _∙_}
 use native.Mathlib.Omega.{arith}
 use borrow.Author.Needs.{needs}
 use Rattle.model.specs.Channels.{many}
@@ -39,7 +39,8 @@ loop-again : tie.Need-loop-again Inv-loop μ-loop
 loop-again c =
     let a = c .before .before .before .before .args in
     let turn = many-turn (c .before .before .before .loop .i) (a .set) (a .first) in
-    ⊎-elim (λ w. omega (arith, turn true (cc))) (λ w. omega (arith, turn false (cc))) (c .if1 .came)
+    let here = c .before .listed .ensures in
+    ⊎-elim (λ w. omega (arith, turn true (sym (w .0 .taken) ∙ here))) (λ w. omega (arith, turn false (sym (w .0 .left) ∙ here))) (c .if1 .came)
 
 returns : tie.Need-returns Inv-loop μ-loop
 returns c =

@@ -9,7 +9,7 @@ keeps-main-requires : tie.Need-keeps-main-requires
 keeps-main-requires c κs = search needs
 
 returns : tie.Need-returns
-returns c = cc
+returns c = rw (c .keeps-main .ensures, c .before .keeps-modules .ensures)
 
 pub init-timing-spec : {M : Type 1} → statement M
 init-timing-spec = tie.close (tie.spec keeps-modules-requires keeps-main-requires returns)

@@ -26,7 +26,7 @@ main-period-requires c κs = search needs
 
 returns : tie.Need-returns
 unfolding keepsMain
-returns c = cc
+returns c = rw (c .main-period .ensures, c .before .group-period .ensures .0)
 
 pub keeps-main-spec : {M : Type 1} → statement M
 keeps-main-spec =

@@ -23,7 +23,8 @@ cast-result c = search needs
 
 returns : tie.Need-returns
 unfolding keepsModules
-returns c = cc
+returns c =
+    rw (c .group-period .ensures .0, c .before .larger .ensures, c .before .before .count-in2 .ensures .0, c .before .before .before .count-in .ensures .0)
 
 pub keeps-modules-spec : {M : Type 1} → statement M
 keeps-modules-spec =

@@ -8,7 +8,7 @@ take-field-requires c κs = search needs
 
 returns : tie.Need-returns
 unfolding inSet
-returns c = cc
+returns c = rw (c .take-field .ensures)
 
 pub listed-spec : {M : Type 1} → statement M
 listed-spec = tie.close (tie.spec take-field-requires returns)

@@ -9,7 +9,7 @@ keeps-main-requires : tie.Need-keeps-main-requires
 keeps-main-requires c κs = search needs
 
 returns : tie.Need-returns
-returns c = cc
+returns c = rw (c .keeps-main .ensures, c .before .largest-mode .ensures)
 
 pub update-timing-spec : {M : Type 1} → statement M
 update-timing-spec = tie.close (tie.spec largest-mode-requires keeps-main-requires returns)

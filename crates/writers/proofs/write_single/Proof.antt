@@ -1,4 +1,4 @@
-use mathlib.Core.Path.{refl}
+use mathlib.Core.Path.{refl, sym, _∙_}
 use native.Mathlib.Omega.{arith}
 use borrow.Author.Needs.{needs}
 use Rattle.commands.specs.Commands.{Command.single}
@@ -10,10 +10,10 @@ good-single-requires : tie.Need-good-single-requires
 good-single-requires c κs = search needs
 
 returns : tie.Need-returns
-returns c = let a = c .before .before .before .before .args in wrote-short (single (a .v)) (a .out .now) (cc) (omega arith)
+returns c = let a = c .before .before .before .before .args in wrote-short (single (a .v)) (a .out .now) (sym (c .before .before .good-single .ensures) ∙ c .before .if1 .taken) (omega arith)
 
 put-single-requires : tie.Need-put-single-requires
-put-single-requires c κs = (cc, omega arith)
+put-single-requires c κs = (sym (c .before .before .before .good-single .ensures) ∙ c .before .before .if1 .taken, c .before .if2 .left)
 
 same-length : tie.Need-same-length
 same-length c = search needs
@@ -21,10 +21,10 @@ same-length c = search needs
 returns-2 : tie.Need-returns-2
 returns-2 c =
     let a = c .before .before .before .before .before .before .before .before .args in
-    wrote-done (single (a .v)) (a .out .now) _ (cc) refl (c .before .before .before .before .if2 .left) (c .before .before .put-single .ensures)
+    wrote-done (single (a .v)) (a .out .now) _ (sym (c .before .before .before .before .before .before .good-single .ensures) ∙ c .before .before .before .before .before .if1 .taken) refl (c .before .before .before .before .if2 .left) (c .before .before .put-single .ensures)
 
 returns-3 : tie.Need-returns-3
-returns-3 c = let a = c .before .before .before .args in wrote-bad (single (a .v)) (a .out .now) (cc)
+returns-3 c = let a = c .before .before .before .args in wrote-bad (single (a .v)) (a .out .now) (sym (c .before .good-single .ensures) ∙ c .if1 .left)
 
 pub write-single-spec : {M : Type 1} → statement M
 write-single-spec =

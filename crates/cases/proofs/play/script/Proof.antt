@@ -2,16 +2,15 @@
 -- Assumes nothing.
 use Prim.Native.Nat.{_-_}
 use borrow.Author.Needs.{needs}
-use native.Mathlib.Omega.{arith}
 use lib.ListN.{length}
 use Rattle.cases.proofs.play.script.Statement.{statement}
 use Rattle.cases.proofs.play.script.Tie as tie
 
 abbrev Inv-loop : tie.InvT-loop
-Inv-loop text buf₀ b₀ from₀ t7 buf b from = Unit {0}
+Inv-loop text buf₀ g₀ at₀ from₀ buf g at from = Unit {0}
 
 abbrev μ-loop : tie.MeasureT-loop
-μ-loop text buf₀ b₀ from₀ t7 buf b from = length text - from
+μ-loop text buf₀ g₀ at₀ from₀ buf g at from = length text - from
 
 empty-requires : tie.Need-empty-requires Inv-loop μ-loop
 empty-requires c κs = search needs
@@ -31,23 +30,23 @@ part-line-start c = search needs
 part-line-end : tie.Need-part-line-end Inv-loop μ-loop
 part-line-end c = search needs
 
+add-from : tie.Need-add-from Inv-loop μ-loop
+add-from c = search needs
+
 text-requires : tie.Need-text-requires Inv-loop μ-loop
 text-requires c κs = search needs
 
-slice-aggregate-text : tie.Need-slice-aggregate-text Inv-loop μ-loop
-slice-aggregate-text c = search needs
+line-end-requires : tie.Need-line-end-requires Inv-loop μ-loop
+line-end-requires c κs = search needs
 
-text-requires-2 : tie.Need-text-requires-2 Inv-loop μ-loop
-text-requires-2 c κs = search needs
+read-requires : tie.Need-read-requires Inv-loop μ-loop
+read-requires c κs = search needs
+
+part-after-requires : tie.Need-part-after-requires Inv-loop μ-loop
+part-after-requires c κs = search needs
 
 step-requires : tie.Need-step-requires Inv-loop μ-loop
 step-requires c κs = search needs
-
-returns : tie.Need-returns Inv-loop μ-loop
-returns c = search needs
-
-add-from : tie.Need-add-from Inv-loop μ-loop
-add-from c = omega (arith, c .before .before .before .before .before .before .before .before .before .before .before .before .good)
 
 loop-less : tie.Need-loop-less Inv-loop μ-loop
 loop-less c = search needs
@@ -55,8 +54,8 @@ loop-less c = search needs
 loop-again : tie.Need-loop-again Inv-loop μ-loop
 loop-again c = search needs
 
-returns-2 : tie.Need-returns-2 Inv-loop μ-loop
-returns-2 c = search needs
+returns : tie.Need-returns Inv-loop μ-loop
+returns c = search needs
 
 pub script-spec : {M : Type 1} → statement M
 script-spec =
@@ -70,12 +69,12 @@ script-spec =
     sub-line
     part-line-start
     part-line-end
-    text-requires
-    slice-aggregate-text
-    text-requires-2
-    step-requires
-    returns
     add-from
+    text-requires
+    line-end-requires
+    read-requires
+    part-after-requires
+    step-requires
     loop-less
     loop-again
-    returns-2)
+    returns)

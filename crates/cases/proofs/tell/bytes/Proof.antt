@@ -8,19 +8,13 @@ use Rattle.cases.proofs.tell.bytes.Statement.{statement}
 use Rattle.cases.proofs.tell.bytes.Tie as tie
 
 abbrev Inv-loop : tie.InvT-loop
-Inv-loop s count i₀ t4 t5 i-end i = (i-end ≡ length s) × (i ≤ i-end)
+Inv-loop s count i₀ t4 i-end i = (i-end ≡ length s) × (i ≤ i-end)
 
 abbrev μ-loop : tie.MeasureT-loop
-μ-loop s count i₀ t4 t5 i-end i = i-end - i
+μ-loop s count i₀ t4 i-end i = i-end - i
 
 loop-holds : tie.Need-loop-holds Inv-loop μ-loop
 loop-holds c = search needs
-
-slice-aggregate-text : tie.Need-slice-aggregate-text Inv-loop μ-loop
-slice-aggregate-text c = search needs
-
-text-requires : tie.Need-text-requires Inv-loop μ-loop
-text-requires c κs = search needs
 
 shared-slice-read-byte : tie.Need-shared-slice-read-byte Inv-loop μ-loop
 shared-slice-read-byte c = search needs
@@ -37,11 +31,11 @@ loop-less c = search needs
 loop-again : tie.Need-loop-again Inv-loop μ-loop
 loop-again c = search needs
 
-slice-aggregate-text-2 : tie.Need-slice-aggregate-text-2 Inv-loop μ-loop
-slice-aggregate-text-2 c = search needs
+slice-aggregate-text : tie.Need-slice-aggregate-text Inv-loop μ-loop
+slice-aggregate-text c = search needs
 
-text-requires-2 : tie.Need-text-requires-2 Inv-loop μ-loop
-text-requires-2 c κs = search needs
+text-requires : tie.Need-text-requires Inv-loop μ-loop
+text-requires c κs = search needs
 
 returns : tie.Need-returns Inv-loop μ-loop
 returns c = search needs
@@ -56,14 +50,12 @@ bytes-spec =
     Inv-loop
     μ-loop
     loop-holds
-    slice-aggregate-text
-    text-requires
     shared-slice-read-byte
     byte-requires
     add-i
     loop-less
     loop-again
-    slice-aggregate-text-2
-    text-requires-2
+    slice-aggregate-text
+    text-requires
     returns
     returns-2)

@@ -6,19 +6,19 @@ use Rattle.cases.proofs.words.bytes.Statement.{statement}
 use Rattle.cases.proofs.words.bytes.Tie as tie
 
 abbrev Inv-loop : tie.InvT-loop
-Inv-loop n s₀ i₀ s i = i ≤ 32
+Inv-loop line s₀ i₀ s i = i ≤ 32
 
 abbrev μ-loop : tie.MeasureT-loop
-μ-loop n s₀ i₀ s i = 32 - i
+μ-loop line s₀ i₀ s i = 32 - i
 
 loop-holds : tie.Need-loop-holds Inv-loop μ-loop
 loop-holds c = search needs
 
-mul-byte : tie.Need-mul-byte Inv-loop μ-loop
-mul-byte c = search needs
+add-nth : tie.Need-add-nth Inv-loop μ-loop
+add-nth c = search needs
 
-array-read-byte : tie.Need-array-read-byte Inv-loop μ-loop
-array-read-byte c = search needs
+nth-requires : tie.Need-nth-requires Inv-loop μ-loop
+nth-requires c κs = search needs
 
 byte-requires : tie.Need-byte-requires Inv-loop μ-loop
 byte-requires c κs = search needs
@@ -45,8 +45,8 @@ bytes-spec =
     Inv-loop
     μ-loop
     loop-holds
-    mul-byte
-    array-read-byte
+    add-nth
+    nth-requires
     byte-requires
     array-write-s
     add-i

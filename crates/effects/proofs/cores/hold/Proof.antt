@@ -1,16 +1,12 @@
-use borrow.Author.Needs.{needs}
 use borrow.Author.Tests.{lt-ltb, le-ltb}
 use Rattle.effects.proofs.cores.hold.Statement.{statement}
 use Rattle.effects.proofs.cores.hold.Tie as tie
 
-fed-requires : tie.Need-fed-requires
-fed-requires c κs = search needs
-
 returns : tie.Need-returns
-returns c = simp (lt-ltb _ _ (c .if1 .taken)) (cc)
+returns c = simp (lt-ltb _ _ (c .if1 .taken))
 
 returns-2 : tie.Need-returns-2
-returns-2 c = simp (le-ltb _ _ (c .if1 .left)) (cc)
+returns-2 c = simp (le-ltb _ _ (c .if1 .left))
 
 pub hold-spec : {M : Type 1} → statement M
-hold-spec = tie.close (tie.spec fed-requires returns returns-2)
+hold-spec = tie.close (tie.spec returns returns-2)

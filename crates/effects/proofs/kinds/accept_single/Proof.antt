@@ -15,14 +15,14 @@ tell-pulse-requires c κs = search needs
 
 returns : tie.Need-returns
 unfolding accept
-returns c = simp (sym (c .before .before .is-felt .ensures) ∙ c .before .if1 .taken) (cc)
+returns c = simp (sym (c .before .before .is-felt .ensures) ∙ c .before .if1 .taken) (c .tell-pulse .ensures ∙ rw (c .before .before .before .hold .ensures))
 
 tell-requires : tie.Need-tell-requires
 tell-requires c κs = search needs
 
 returns-2 : tie.Need-returns-2
 unfolding accept
-returns-2 c = simp (sym (c .before .before .is-felt .ensures) ∙ c .before .if1 .left) (cc)
+returns-2 c = simp (sym (c .before .before .is-felt .ensures) ∙ c .before .if1 .left) (c .tell .ensures ∙ rw (c .before .before .before .hold .ensures))
 
 pub accept-single-spec : {M : Type 1} → statement M
 accept-single-spec =

@@ -42,7 +42,15 @@ returns : tie.Need-returns
 returns c =
     let start = c .before .before .before .before .before .before .before .before .before .before .before in
     let a = start .args in
-    cc (init-joined (a .check) (a .v) (start .pre .0) (init-fits (a .v) (start .pre .1)) (omega arith) (omega arith))
+    rw (
+      c .put-field6 .ensures,
+      c .before .before .put-field5 .ensures,
+      c .before .before .before .before .put-field4 .ensures,
+      c .before .before .before .before .before .before .put-field3 .ensures,
+      c .before .before .before .before .before .before .before .before .put-field2 .ensures,
+      c .before .before .before .before .before .before .before .before .before .before .put-field .ensures,
+    )
+    (init-joined (a .check) (a .v) (start .pre .0) (init-fits (a .v) (start .pre .1)) (omega arith) (omega arith))
 
 pub init-number-spec : {M : Type 1} → statement M
 init-number-spec =

@@ -50,8 +50,7 @@ returns c =
     let start = c .before .before .before .before in
     let a = start .args in
     let p = start .pre in
-    let e = lead-below (a .low) (p .0) (p .1) (p .2) (field-lt (a .width) 7 2) in
-    simp (add-one, add-two) (cc)
+    simp (add-one, add-two) (rw (c .take-field2 .ensures, c .before .put-field .ensures, c .before .before .take-field .ensures, lead-below (a .low) (p .0) (p .1) (p .2) (field-lt (a .width) 7 2)))
 
 pub put-entry-spec : {M : Type 1} → statement M
 put-entry-spec =

@@ -68,7 +68,17 @@ same-length : tie.Need-same-length
 same-length c = search needs
 
 returns : tie.Need-returns
-returns c = cc
+returns c =
+    rw (
+      c .take-field6 .ensures,
+      c .before .take-field5 .ensures,
+      c .before .before .take-field4 .ensures,
+      c .before .before .before .take-field3 .ensures,
+      c .before .before .before .before .take-field2 .ensures,
+      c .before .before .before .before .before .take-field .ensures,
+      c .before .before .before .before .before .before .init-number .ensures,
+      c .before .before .before .before .before .before .before .check-init .ensures,
+    )
 
 pub put-init-spec : {M : Type 1} → statement M
 put-init-spec =

@@ -24,7 +24,7 @@ same-length : tie.Need-same-length
 same-length c = ap length (c .before .before .put-entry .ensures) ∙ simp length-set
 
 returns : tie.Need-returns
-returns c = cc
+returns c = c .before .before .put-entry .ensures ∙ rw (c .before .before .before .before .head-of .ensures, c .before .before .before .before .before .check-single .ensures)
 
 pub put-single-spec : {M : Type 1} → statement M
 put-single-spec =

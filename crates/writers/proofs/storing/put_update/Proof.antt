@@ -28,7 +28,7 @@ same-length : tie.Need-same-length
 same-length c = ap length (c .before .before .put-settings .ensures) ∙ simp (length-sets, length-set)
 
 returns : tie.Need-returns
-returns c = cc
+returns c = c .before .before .put-settings .ensures ∙ rw (c .before .before .before .before .head-of .ensures, c .before .before .before .before .before .check-update .ensures)
 
 pub put-update-spec : {M : Type 1} → statement M
 put-update-spec =

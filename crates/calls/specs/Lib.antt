@@ -1,0 +1,5 @@
+pub mod Making
+pub mod Filed
+pub mod Calls
+pub mod Readout
+pub mod Claims

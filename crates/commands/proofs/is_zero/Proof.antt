@@ -1,0 +1,26 @@
+use mathlib.Core.Path.{refl}
+use borrow.Author.Needs.{needs}
+use Rattle.commands.proofs.is_zero.Statement.{statement}
+use Rattle.commands.proofs.is_zero.Tie as tie
+
+cast-result : tie.Need-cast-result
+cast-result c = search needs
+
+cast-result-2 : tie.Need-cast-result-2
+cast-result-2 c = search needs
+
+add-result : tie.Need-add-result
+add-result c = search needs
+
+cast-result-3 : tie.Need-cast-result-3
+cast-result-3 c = search needs
+
+add-result-2 : tie.Need-add-result-2
+add-result-2 c = search needs
+
+returns : tie.Need-returns
+returns c = refl
+
+pub is-zero-spec : {M : Type 1} → statement M
+is-zero-spec =
+    tie.close (tie.spec cast-result cast-result-2 add-result cast-result-3 add-result-2 returns)

@@ -1,0 +1,14 @@
+use mathlib.Core.Path.{ap}
+use borrow.Author.Needs.{needs}
+use Rattle.frame_exports.specs.Reports.{asInit}
+use Rattle.frame_exports.proofs.init.yarrowbell_read_init.Statement.{statement}
+use Rattle.frame_exports.proofs.init.yarrowbell_read_init.Tie as tie
+
+read-frame-requires : tie.Need-read-frame-requires
+read-frame-requires c κs = search needs
+
+returns : tie.Need-returns
+returns c = ap asInit (c .before .before .read-frame .ensures)
+
+pub yarrowbell-read-init-spec : {M : Type 1} → statement M
+yarrowbell-read-init-spec = tie.close (tie.spec read-frame-requires returns)

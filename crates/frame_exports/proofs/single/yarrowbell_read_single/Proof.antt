@@ -1,0 +1,14 @@
+use mathlib.Core.Path.{ap}
+use borrow.Author.Needs.{needs}
+use Rattle.frame_exports.specs.Reports.{asSingle}
+use Rattle.frame_exports.proofs.single.yarrowbell_read_single.Statement.{statement}
+use Rattle.frame_exports.proofs.single.yarrowbell_read_single.Tie as tie
+
+read-frame-requires : tie.Need-read-frame-requires
+read-frame-requires c κs = search needs
+
+returns : tie.Need-returns
+returns c = ap asSingle (c .before .before .read-frame .ensures)
+
+pub yarrowbell-read-single-spec : {M : Type 1} → statement M
+yarrowbell-read-single-spec = tie.close (tie.spec read-frame-requires returns)

@@ -1,9 +1,0 @@
--- What is promised of the calls on a box, as statements. Each is proved in `proofs/Zero`.
-use mathlib.Core.Bool.{false}
-use mathlib.Core.Path.{_≡_}
-use Rattle.record.specs.Box.{goodBox}
-use Rattle.guard.specs.Making.{zeroBox}
-
--- the record of zeros that a refused making gives is no good box: a call on it answers 12
-abbrev pub ZeroNotGood : Type 0
-ZeroNotGood = goodBox zeroBox ≡ false

@@ -1,3 +1,0 @@
-pub mod Said
-pub mod Step
-pub mod Claims

@@ -1,0 +1,5 @@
+pub mod Zeros
+pub mod Lows
+pub mod Partials
+pub mod Facts
+pub mod Carries

@@ -1,0 +1,12 @@
+use borrow.Author.Needs.{needs}
+use Rattle.reader.proofs.layout.setting_in.Statement.{statement}
+use Rattle.reader.proofs.layout.setting_in.Tie as tie
+
+entry-in-requires : tie.Need-entry-in-requires
+entry-in-requires c κs = search needs
+
+returns : tie.Need-returns
+returns c = rw (c .entry-in .ensures)
+
+pub setting-in-spec : {M : Type 1} → statement M
+setting-in-spec = tie.close (tie.spec entry-in-requires returns)

@@ -1,0 +1,59 @@
+use mathlib.Core.Path.{ap, ap₂, _∙_}
+use lib.Dec.{eqb}
+use borrow.Author.Needs.{needs}
+use Rattle.commands.specs.Commands.{Command.update}
+use Rattle.frames.specs.declared.Fields.{Fields}
+use Rattle.frames.proofs.Judging.{judged-as}
+use Rattle.reader.proofs.reading.read_update.Statement.{statement}
+use Rattle.reader.proofs.reading.read_update.Tie as tie
+
+entries-in-requires : tie.Need-entries-in-requires
+entries-in-requires c κs = search needs
+
+shared-slice-read-check-of : tie.Need-shared-slice-read-check-of
+shared-slice-read-check-of c = search needs
+
+check-of-requires : tie.Need-check-of-requires
+check-of-requires c κs = search needs
+
+check-update-requires : tie.Need-check-update-requires
+check-update-requires c κs = search needs
+
+good-update-requires : tie.Need-good-update-requires
+good-update-requires c κs = search needs
+
+nothing-requires : tie.Need-nothing-requires
+nothing-requires c κs = search needs
+
+mul-judged : tie.Need-mul-judged
+mul-judged c = search needs
+
+add-judged : tie.Need-add-judged
+add-judged c = search needs
+
+judged-requires : tie.Need-judged-requires
+judged-requires c κs = search needs
+
+returns : tie.Need-returns
+returns c =
+    let count = c .before .before .before .before .before .before .before .before .args .count in
+    let l = c .before .before .before .before .before .before .entries-in in
+    rw (← l .ensures)
+    (c .judged .ensures
+    ∙ judged-as _ (update count (l .result)) (ap₂ eqb (c .before .before .before .before .check-of .ensures) (c .before .before .before .check-update .ensures)) (c .before .before .good-update .ensures)
+    (ap (λ (f : Fields). record { ident = 1; init = f .init; entries = l .result; single = f .single }) (c .before .nothing .ensures)))
+
+pub read-update-spec : {M : Type 1} → statement M
+read-update-spec =
+    tie.close
+    (tie.spec
+    entries-in-requires
+    shared-slice-read-check-of
+    check-of-requires
+    check-update-requires
+    good-update-requires
+    nothing-requires
+    mul-judged
+    add-judged
+    judged-requires
+    returns)
