@@ -1,13 +1,8 @@
 -- What a byte leaves of the partial frame.
 use Prim.Native.Nat.{ℕ, _+_}
-use mathlib.Core.Bool.{cond}
-use mathlib.Core.List.{[], _∷_}
+use mathlib.Core.List.{[]}
 use lib.ListN.{set}
-use Rattle.frames.specs.Layout.{sizeFor}
-use Rattle.model.specs.declared.Core.{Core}
-use Rattle.model.specs.Channels.{channels}
-use Rattle.model.specs.State.{noFrame, isRunning}
-use Rattle.model.specs.Arrival.{Arrival, Arrival.alone, Arrival.growing}
+use Rattle.model.specs.State.{noFrame}
 use Rattle.record.specs.declared.Box.{Box}
 use Rattle.partial.specs.declared.PartialFrame.{PartialFrame}
 use Rattle.partial.specs.Partial.{frameOf}

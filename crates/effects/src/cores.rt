@@ -2,7 +2,6 @@
 use commands::Init;
 use commands::Setting;
 use model::Core;
-use model::Run;
 ghost use mathlib.Core.Bool.{cond};
 ghost use mathlib.Core.Path.{_≡_};
 ghost use lib.Dec.{ltb};

@@ -1,6 +1,5 @@
 use mathlib.Core.Path.{_∙_}
 use borrow.Author.Needs.{needs}
-use Rattle.model.specs.Channels.{channels}
 use Rattle.arrival.proofs.Arrivals.{update-opens, update-alone}
 use Rattle.arrival.proofs.open_update.Statement.{statement}
 use Rattle.arrival.proofs.open_update.Tie as tie
