@@ -15,7 +15,8 @@ ghost use Rattle.calls.specs.Readout.{readoutOf, readoutBytes};
 pub fn byte(b: Box, buf: &mut [u8], at: Part, n: u8) -> Called
     ensures { λ r. ⌜ (r ≡ callOf b (now (buf .entry)) at (byte n) .called) × (now (buf .exit) ≡ callOf b (now (buf .entry)) at (byte n) .buf) ⌝ }
 {
-    let ready = ring::ready(buf, at, b.ring);
+    let ring = b.ring;
+    let ready = ring::ready(buf, at, ring);
     let t = arrival::take_byte(b, ready, n);
     filing::finish(buf, at, t)
 }
@@ -24,7 +25,8 @@ pub fn byte(b: Box, buf: &mut [u8], at: Part, n: u8) -> Called
 pub fn tick(b: Box, buf: &mut [u8], at: Part) -> Called
     ensures { λ r. ⌜ (r ≡ callOf b (now (buf .entry)) at tick .called) × (now (buf .exit) ≡ callOf b (now (buf .entry)) at tick .buf) ⌝ }
 {
-    let ready = ring::ready(buf, at, b.ring);
+    let ring = b.ring;
+    let ready = ring::ready(buf, at, ring);
     let t = ticks::take_tick(b, ready);
     filing::finish(buf, at, t)
 }
@@ -34,7 +36,8 @@ pub fn readout(b: Box, buf: &[u8], at: Part, out: &mut [u8]) -> Readout
     ensures { λ r. ⌜ (r ≡ readoutOf b (now (buf .entry)) at (length (now (out .entry)))) × (now (out .exit) ≡ readoutBytes b (now (buf .entry)) at (now (out .entry))) ⌝ }
 {
     if record::good_box(b) {
-        return readout::read_out(buf, at, b.ring, out);
+        let ring = b.ring;
+        return readout::read_out(buf, at, ring, out);
     }
     Readout {
         answer: answers::BOX_NOT_GOOD,

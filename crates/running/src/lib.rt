@@ -75,14 +75,15 @@ fn good_waiting(p: Profile, v: Init, waits: u8, waiting: [Setting; 8]) -> bool
 fn good_run(p: Profile, clock: u32, r: Run) -> bool
     ensures { λ o. ⌜ o ≡ goodRun p clock r ⌝ }
 {
+    let v = r.list;
     let settings = r.settings;
     let waiting = r.waiting;
-    let period = timing::main_period(r.list.main);
-    good_list(r.list)
-        & timing::init_timing(r.list)
+    let period = timing::main_period(v.main);
+    good_list(v)
+        & timing::init_timing(v)
         & (p.shortest as u32 <= period)
-        & fit(p, r.list, settings)
-        & good_waiting(p, r.list, r.waits, waiting)
+        & fit(p, v, settings)
+        & good_waiting(p, v, r.waits, waiting)
         & ((r.position as u32) < period)
         & (r.cycle <= clock)
         & (r.watch < p.watchdog)
@@ -97,9 +98,10 @@ fn zero_list(v: Init) -> bool
 fn zero_run(r: Run) -> bool
     ensures { λ o. ⌜ o ≡ zeroRun r ⌝ }
 {
+    let v = r.list;
     let settings = r.settings;
     let waiting = r.waiting;
-    zero_list(r.list)
+    zero_list(v)
         & all_zero(settings)
         & (r.waits == 0)
         & all_zero(waiting)
@@ -111,10 +113,11 @@ fn zero_run(r: Run) -> bool
 fn good_by_state(p: Profile, clock: u32, m: Core) -> bool
     ensures { λ o. ⌜ o ≡ cond (isRunning m) (goodRun p clock (m .run)) (zeroRun (m .run)) ⌝ }
 {
+    let r = m.run;
     if m.state == model::RUNNING {
-        return good_run(p, clock, m.run);
+        return good_run(p, clock, r);
     }
-    zero_run(m.run)
+    zero_run(r)
 }
 
 // The holds, the state, and the run that belongs to it.

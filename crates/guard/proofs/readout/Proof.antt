@@ -15,7 +15,7 @@ same-length c = search needs
 
 returns : tie.Need-returns
 unfolding readoutOf readoutBytes
-returns c = simp (sym (c .before .before .before .before .before .good-box .ensures) ∙ c .before .before .before .before .if1 .taken) (c .before .before .read-out .ensures)
+returns c = simp (sym (c .before .before .before .before .before .before .good-box .ensures) ∙ c .before .before .before .before .before .if1 .taken) (c .before .before .read-out .ensures)
 
 returns-2 : tie.Need-returns-2
 unfolding readoutOf readoutBytes

@@ -20,7 +20,7 @@ returns : tie.Need-returns
 returns c =
     let t = c .before .before .before .before in
     let r = t .before in
-    let a = r .before .before .before .args in
+    let a = r .before .before .before .before .args in
     call-done (a .b) (a .buf .now) (a .at) tick (r .ready .ensures) (t .take-tick .ensures) (c .before .before .finish .ensures)
 
 pub tick-spec : {M : Type 1} → statement M

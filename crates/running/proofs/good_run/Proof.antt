@@ -30,7 +30,7 @@ returns c =
     let first = waiting .before in
     let timing = first .before .before in
     let list = timing .before in
-    let a = list .before .before .before .before .args in
+    let a = list .before .before .before .before .before .args in
     rw (list .before .main-period .ensures, list .good-list .ensures, timing .init-timing .ensures, first .fit .ensures)
     (run-regroups (a .p) (a .clock) (a .r) (waiting .good-waiting .result) (waiting .good-waiting .ensures))
 
