@@ -57,9 +57,12 @@ goodInit v = leb (v .factor) 7 && not (eqb (v .stim) 0) && within 3 (v .group) 2
 abbrev pub goodSetting : Setting → Bool
 goodSetting v = leb (v .mode) 2 && goodPulse (v .width) (v .current)
 
+abbrev pub isZero : Setting → Bool
+isZero v = eqb (settingSum v) 0
+
 -- an Update entry past the count that is not zero is not good
 abbrev pub goodEntry : Setting → Bool → Bool
-goodEntry v listed = cond listed (goodSetting v) (eqb (settingSum v) 0)
+goodEntry v listed = cond listed (goodSetting v) (isZero v)
 
 unfoldable pub goodEntries : List Setting → ℕ → Bool
 goodEntries [] count = true

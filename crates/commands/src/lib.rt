@@ -4,9 +4,8 @@ pub mod idents;
 pub mod sizes;
 
 ghost use mathlib.Core.Path.{_≡_};
-ghost use lib.Dec.{eqb};
 ghost use Rattle.commands.specs.Ranges.{within, goodPulse, goodCount};
-ghost use Rattle.commands.specs.Commands.{Command.init, Command.update, Command.single, settingSum, goodSetting, goodEntry, goodEntries, good};
+ghost use Rattle.commands.specs.Commands.{Command.init, Command.update, Command.single, isZero, goodSetting, goodEntry, goodEntries, good};
 ghost use Rattle.commands.specs.Reply.{reply};
 
 // What an Init sets: N_Factor, Channel_Stim, Channel_Lf, Group_Time, Main_Time.
@@ -85,7 +84,7 @@ pub fn good_setting(v: Setting) -> bool
 
 // Whether a setting is zero throughout.
 pub fn is_zero(v: Setting) -> bool
-    ensures { λ r. ⌜ r ≡ eqb (settingSum v) 0 ⌝ }
+    ensures { λ r. ⌜ r ≡ isZero v ⌝ }
 {
     v.mode as u32 + v.width as u32 + v.current as u32 == 0
 }

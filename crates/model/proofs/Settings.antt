@@ -10,13 +10,13 @@ use borrow.Author.Tests.{le-leb, eq-eqb, eqb-true}
 use Rattle.commands.specs.declared.Init.{Init}
 use Rattle.commands.specs.declared.Setting.{Setting}
 use Rattle.commands.specs.Ranges.{within}
-use Rattle.commands.specs.Commands.{noSetting, settingSum, goodSetting, goodEntry, goodEntries}
+use Rattle.commands.specs.Commands.{noSetting, settingSum, goodSetting, isZero, goodEntry, goodEntries}
 use Rattle.commands.proofs.Tests.{both}
 use Rattle.model.specs.declared.Profile.{Profile}
 use Rattle.model.specs.Channels.{inSet, many, silence, placed}
 use Rattle.model.specs.Timing.{keepsMain, largestMode, updateTiming}
 use Rattle.model.specs.Profiles.{overAt, overLimits}
-use Rattle.model.specs.Good.{goodAt, isZero, allZero, settingFits, fits}
+use Rattle.model.specs.Good.{goodAt, allZero, settingFits, fits}
 use Rattle.model.proofs.Tests.{_and_, either-way}
 use Rattle.model.proofs.Below.{each-below, all-below, none-below, most-zero, row-at}
 

@@ -8,7 +8,7 @@ use Rattle.bits.specs.High.{high}
 use Rattle.commands.specs.declared.Init.{Init}
 use Rattle.commands.specs.declared.Setting.{Setting}
 use Rattle.commands.specs.Ranges.{within}
-use Rattle.commands.specs.Commands.{noSetting, settingSum, goodInit, goodSetting}
+use Rattle.commands.specs.Commands.{noSetting, goodInit, goodSetting, isZero}
 use Rattle.frames.specs.Layout.{identIn, sizeFor}
 use Rattle.model.specs.declared.Profile.{Profile}
 use Rattle.model.specs.declared.Run.{Run}
@@ -25,9 +25,6 @@ use Rattle.model.specs.Ticks.{lastClock}
 -- Channel_Stim and Channel_Lf are bytes
 abbrev pub goodList : Init → Bool
 goodList v = goodInit v && leb (v .stim) 255 && leb (v .lf) 255
-
-abbrev pub isZero : Setting → Bool
-isZero x = eqb (settingSum x) 0
 
 abbrev pub allZero : List Setting → Bool
 allZero settings = allBelow 8 λ i. isZero (getD settings i noSetting)

@@ -4,9 +4,8 @@ use mathlib.Core.Path.{_≡_}
 use native.Mathlib.Omega.{arith}
 use lib.ListN.{getD}
 use borrow.Author.Needs.{needs}
-use Rattle.commands.specs.Commands.{noSetting}
+use Rattle.commands.specs.Commands.{noSetting, isZero}
 use Rattle.model.specs.Below.{allBelow}
-use Rattle.model.specs.Good.{isZero}
 use Rattle.model.proofs.Turns.{all-turn}
 use Rattle.running.proofs.all_zero.Statement.{statement}
 use Rattle.running.proofs.all_zero.Tie as tie
