@@ -75,8 +75,11 @@ impl Answer {
         self as u8
     }
 
-    /// The answer that the library gave by its number.
-    pub(crate) fn known(number: u8) -> Answer {
-        Answer::from_number(number).expect("the library answers by the numbers of document 01")
+    /// The answer that the library gave by its number, in whatever width.
+    pub(crate) fn known(number: impl TryInto<u8>) -> Answer {
+        let number = number.try_into().ok();
+        number
+            .and_then(Answer::from_number)
+            .expect("the library answers by the numbers of document 01")
     }
 }

@@ -43,7 +43,7 @@ pub fn read(bytes: &[u8], count: usize) -> Result<Frame, Answer> {
         }
     };
     match Answer::known(answer) {
-        Answer::Done => Ok(Frame { command, used }),
+        Answer::Done => Ok(Frame { command, used: used.into() }),
         refusal => Err(refusal),
     }
 }
@@ -58,7 +58,7 @@ pub fn write(command: &Command, count: usize, out: &mut [u8]) -> Result<usize, A
         Command::Single(single) => calls::write_single(*single, out),
     };
     match Answer::known(answer) {
-        Answer::Done => Ok(used),
+        Answer::Done => Ok(used.into()),
         refusal => Err(refusal),
     }
 }

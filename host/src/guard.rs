@@ -15,7 +15,8 @@ pub struct Guard {
 impl Guard {
     /// A fresh box: idle at clock 0, with an empty ring of `capacity` bytes.
     pub fn new(profile: Profile, capacity: usize) -> Result<Guard, Refusal> {
-        let made = calls::make(profile, capacity);
+        // A capacity that is too large for its number is too large for a box.
+        let made = calls::make(profile, capacity.try_into().unwrap_or(u32::MAX));
         let answer = Answer::known(made.answer);
         match (answer, profile.out_of_range()) {
             (Answer::Done, _) => {
@@ -47,9 +48,10 @@ impl Guard {
     pub fn readout(&self, out: &mut [u8]) -> Result<usize, Refusal> {
         let readout = calls::readout(self.record, &self.ring, self.part(), out);
         match Answer::known(readout.answer) {
-            Answer::Done => Ok(readout.used),
+            Answer::Done => Ok(readout.used as usize),
             answer @ Answer::OutputTooShort => {
-                let about = About::Output { room: out.len(), trace: self.record.ring.used };
+                let about =
+                    About::Output { room: out.len(), trace: self.record.ring.used as usize };
                 Err(Refusal { answer, about })
             }
             answer => Err(self.refusal(answer)),
@@ -58,7 +60,7 @@ impl Guard {
 
     /// The ring's records, oldest first.
     pub fn trace(&self) -> Result<Vec<u8>, Refusal> {
-        let mut out = vec![0; self.record.ring.used];
+        let mut out = vec![0; self.record.ring.used as usize];
         self.readout(&mut out)?;
         Ok(out)
     }

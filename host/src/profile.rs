@@ -82,7 +82,7 @@ impl Profile {
         });
         let charge = ("the largest charge".to_owned(), self.charge, Profile::CHARGES);
         let watchdog = ("the watchdog".to_owned(), self.watchdog, Profile::WATCHDOGS);
-        let shortest = ("the shortest t1".to_owned(), self.shortest.into(), Profile::SHORTEST);
+        let shortest = ("the shortest t1".to_owned(), self.shortest, Profile::SHORTEST);
         let number = |falling| {
             move |(what, is, range): (String, u32, RangeInclusive<u32>)| Number {
                 what,

@@ -12,7 +12,7 @@ pub enum State {
 
 impl State {
     /// The state of a box record's number.
-    pub(crate) fn known(number: u8) -> State {
+    pub(crate) fn known(number: u16) -> State {
         match number {
             0 => State::Idle,
             1 => State::Running,

@@ -17,7 +17,8 @@ impl Told {
     /// A byte decides a command unless its frame is unfinished or it is a stray.
     pub(crate) fn of_byte(answer: Answer, said: Said) -> Told {
         let decided = !matches!(answer, Answer::Unfinished | Answer::LowByte);
-        Told { reply: decided.then_some(said.reply), ..Told::of_tick(answer, said) }
+        let reply = decided.then(|| said.reply.try_into().expect("a reply is one byte"));
+        Told { reply, ..Told::of_tick(answer, said) }
     }
 
     pub(crate) fn of_tick(answer: Answer, said: Said) -> Told {

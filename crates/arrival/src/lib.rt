@@ -21,14 +21,15 @@ ghost use Rattle.effects.specs.Deciding.{Whole};
 
 // The first byte of a frame of this length.
 fn first(n: u8, size: usize) -> PartialFrame
+    requires { ⌜ size ≤ 25 ⌝ }
     ensures { λ r. ⌜ r ≡ frameOf (record { bytes = n ∷ []; size = size }) ⌝ }
 {
     let mut bytes: [u8; 25] = [0; 25];
     bytes[0] = n;
     PartialFrame {
         bytes,
+        kept: size as u8,
         len: 1,
-        kept: size,
     }
 }
 
@@ -39,11 +40,11 @@ fn grow(q: PartialFrame, n: u8) -> PartialFrame
 {
     let mut bytes = q.bytes;
     let len = q.len;
-    bytes[len] = n;
+    bytes[len as usize] = n;
     PartialFrame {
         bytes,
-        len: len + 1,
         kept: q.kept,
+        len: len + 1,
     }
 }
 
@@ -96,7 +97,7 @@ fn finish(b: Box, q: PartialFrame) -> Stepped
     ensures { λ r. ⌜ r ≡ carried b (taken (b .profile) (stateOf b) (whole (take (q .len) (q .bytes)))) ⌝ }
 {
     let bytes = q.bytes;
-    let len = q.len;
+    let len = q.len as usize;
     settle(
         b,
         effects::decide(b.profile, b.clock, b.core, &bytes[..len]),
@@ -141,7 +142,7 @@ fn follow(b: Box, n: u8) -> Stepped
         return outcome::refuse(answers::LOW_BYTE, b);
     }
     let longer = grow(b.partial, n);
-    if longer.len == longer.kept {
+    if longer.len == longer.kept as u16 {
         return finish(b, longer);
     }
     keep(b, longer)

@@ -3,21 +3,21 @@
 // The layout that both sides rely on (x86-64 Linux, C's rules, numbers in the machine's order), in `lent` too:
 //   &[u8], &mut [u8]   two arguments, a pointer and then a length of 8 bytes
 //   &mut Box           a pointer to a Box (crate lent)
-//   Init, Setting      6 bytes each, as in frame_exports
-//   Part, Ring         16 and 24 bytes, as in ring_exports
-//   Readout            16 bytes, as in ring_exports
-//   Profile            36 bytes: currents 0 (eight), widths 8 (eight of 2 bytes), charge 24 (4 bytes), shortest 28 (2 bytes),
-//                      watchdog 32 (4 bytes)
-//   Run                116 bytes: list 0 (Init), settings 6 (eight), waits 54, waiting 56 (eight settings), position 104 (2 bytes),
-//                      cycle 108, watch 112 (4 bytes each)
-//   Core               120 bytes: holda 0, holdb 1, state 2, run 4
-//   PartialFrame       48 bytes: bytes 0 (25 of them), len 32, kept 40 (8 bytes each)
-//   Box                232 bytes: profile 0, clock 36 (4 bytes), core 40, partial 160, ring 208
-//   Released           12 bytes: clock 0 (4 bytes), channel 4, width 6 (2 bytes), current 8
-//   Said               28 bytes: answer 0, reply 1, a 4, b 16 (Released each)
-//   Made               240 bytes: answer 0, made 8 (Box)
-//   Called             264 bytes: said 0, next 32 (Box)
-// Structs go by value, but for a box lent by reference. Bytes of a struct that no field has are left to chance.
+//   Init, Setting      6 and 4 bytes, as in frame_exports
+//   Part, Ring         16 and 12 bytes, as in ring_exports
+//   Readout            8 bytes, as in ring_exports
+//   Profile            36 bytes: currents 0 (eight), widths 8 (eight of 2 bytes), charge 24, shortest 28, watchdog 32 (4 bytes each)
+//   Run                84 bytes: list 0 (Init), position 6 (2 bytes), cycle 8, watch 12, waits 16 (4 bytes each), settings 20 (eight),
+//                      waiting 52 (eight settings)
+//   Core               88 bytes: holda 0, holdb 1, state 2 (2 bytes), run 4
+//   PartialFrame       28 bytes: bytes 0 (25 of them), kept 25, len 26 (2 bytes)
+//   Box                168 bytes: profile 0, clock 36 (4 bytes), core 40, partial 128, ring 156
+//   Released           8 bytes: clock 0 (4 bytes), width 4 (2 bytes), channel 6, current 7
+//   Said               20 bytes: answer 0, reply 2 (2 bytes each), a 4, b 12 (Released each)
+//   Made               172 bytes: answer 0 (4 bytes), made 4 (Box)
+//   Called             188 bytes: said 0, next 20 (Box)
+// Structs go by value, but for a box lent by reference. Every byte of a struct is a field's: some numbers are wider than their range
+// asks for, so that none lies between two fields or behind the last.
 use calls::Called;
 use calls::Made;
 use model::Profile;
@@ -32,7 +32,7 @@ ghost use Rattle.calls.specs.Calls.{callOf};
 ghost use Rattle.calls.specs.Readout.{readoutOf, readoutBytes};
 
 #[no_mangle]
-pub extern "C" fn yarrowbell_make(profile: Profile, capacity: usize) -> Made
+pub extern "C" fn yarrowbell_make(profile: Profile, capacity: u32) -> Made
     ensures { λ r. ⌜ r ≡ makeOf profile capacity ⌝ }
 {
     making::make(profile, capacity)

@@ -6,7 +6,7 @@ use said::Said;
 // What the making of a box answers, and the box, all zero where it is refused.
 #[repr(C)]
 pub struct Made {
-    pub answer: u8,
+    pub answer: u32,
     pub made: Box,
 }
 

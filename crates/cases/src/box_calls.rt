@@ -11,7 +11,7 @@ const STOP: u8 = 0xC0;
 
 // make: a box, or the all-zero record of a refusal.
 pub fn make(p: Profile, capacity: u32) -> Box {
-    let m = making::make(p, capacity as usize);
+    let m = making::make(p, capacity);
     tell::answer(m.answer);
     m.made
 }

@@ -11,7 +11,7 @@ pub fn profile(line: &[u8]) -> Profile {
         currents: [words::byte(words::nth(line, 4, DECIMAL)); 8],
         widths: [words::short(words::nth(line, 5, DECIMAL)); 8],
         charge: words::nth(line, 6, DECIMAL),
-        shortest: words::short(words::nth(line, 3, DECIMAL)),
+        shortest: words::nth(line, 3, DECIMAL),
         watchdog: words::nth(line, 2, DECIMAL),
     }
 }

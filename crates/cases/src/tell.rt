@@ -36,27 +36,27 @@ pub fn filled(s: &[u8], list: [u64; 4]) {
     }
 }
 
-pub fn answer(n: u8) {
+pub fn answer(n: u32) {
     filled(b"  answer %\n", [n as u64, 0, 0, 0]);
 }
 
-fn digit(n: u8) -> u8 {
+fn digit(n: u16) -> u8 {
     if n < 10 {
-        return n + b'0';
+        return n as u8 + b'0';
     }
     if n < 16 {
-        return n - 10 + b'A';
+        return n as u8 - 10 + b'A';
     }
     b'?'
 }
 
 fn byte(n: u8) {
-    let s = [b' ', digit(n / 16), digit(n % 16)];
+    let s = [b' ', digit(n as u16 / 16), digit(n as u16 % 16)];
     text(&s);
 }
 
 // A reply in brackets; nothing where it is 0.
-fn reply(n: u8) {
+fn reply(n: u16) {
     if n != 0 {
         let s = [b' ', b'(', digit(n / 16), digit(n % 16), b')'];
         text(&s);
@@ -107,7 +107,7 @@ pub fn ticked(s: Said) {
     let b = s.b;
     let line = b"  clock %: channel %, % us, % mA\n";
     if s.answer != 0 {
-        answer(s.answer);
+        answer(s.answer as u32);
     }
     pulse(line, a);
     pulse(line, b);
@@ -124,7 +124,7 @@ pub fn readout(r: Readout, out: &[u8]) {
         b"  answer %, % bytes:",
         [r.answer as u64, used as u64, 0, 0],
     );
-    bytes(out, used);
+    bytes(out, used as usize);
     line_end();
 }
 
@@ -136,7 +136,7 @@ pub fn frame(r: Read) {
     );
 }
 
-fn clock(n: u32, state: u8) {
+fn clock(n: u32, state: u16) {
     filled(b"  clock %, ", [n as u64, 0, 0, 0]);
     match state {
         model::IDLE => text(b"idle"),

@@ -6,7 +6,7 @@ pub mod sizes;
 ghost use mathlib.Core.Path.{_≡_};
 ghost use Rattle.commands.specs.Ranges.{within, goodPulse, goodCount};
 ghost use Rattle.commands.specs.Commands.{Command.init, Command.update, Command.single, isZero, goodSetting, goodEntry, goodEntries, good};
-ghost use Rattle.commands.specs.Reply.{reply};
+ghost use Rattle.commands.specs.Reply.{isDecision, reply};
 
 // What an Init sets: N_Factor, Channel_Stim, Channel_Lf, Group_Time, Main_Time.
 #[repr(C)]
@@ -29,28 +29,28 @@ pub const NO_INIT: Init = Init {
 // What an Update sets one channel to.
 #[repr(C)]
 pub struct Setting {
-    pub mode: u8,
     pub width: u16,
+    pub mode: u8,
     pub current: u8,
 }
 
 pub const NO_SETTING: Setting = Setting {
-    mode: 0,
     width: 0,
+    mode: 0,
     current: 0,
 };
 
 // What a Single asks for; its channel is Channel_Number, 0 to 7.
 #[repr(C)]
 pub struct Single {
-    pub channel: u8,
     pub width: u16,
+    pub channel: u8,
     pub current: u8,
 }
 
 pub const NO_SINGLE: Single = Single {
-    channel: 0,
     width: 0,
+    channel: 0,
     current: 0,
 };
 
@@ -131,12 +131,22 @@ pub fn good_single(v: Single) -> bool
 
 // ---- the reply
 
-// The reply byte to a decided command of this Ident, of which the two lowest bits count.
+// Whether an answer decides a command: it was carried out, or refused.
+fn is_decision(answer: u8) -> bool
+    ensures { λ r. ⌜ r ≡ isDecision answer ⌝ }
+{
+    (answer == answers::DONE) | ((answers::WRONG_CHECK <= answer) & (answer <= answers::TRIPPED))
+}
+
+// The reply byte to a command of this Ident, of which the two lowest bits count; 0 where the answer decides none.
 pub fn reply_to(ident: u8, answer: u8) -> u8
     ensures { λ r. ⌜ r ≡ reply ident answer ⌝ }
 {
-    if answer == answers::DONE {
-        return ident % 4 * 64 + 1;
+    if is_decision(answer) {
+        if answer == answers::DONE {
+            return ident % 4 * 64 + 1;
+        }
+        return ident % 4 * 64;
     }
-    ident % 4 * 64
+    0
 }

@@ -11,7 +11,7 @@ ghost use Rattle.frame_exports.specs.Reports.{asSingle};
 pub struct ReadSingle {
     pub answer: u8,
     pub ident: u8,
-    pub used: usize,
+    pub used: u16,
     pub single: Single,
 }
 
@@ -25,7 +25,7 @@ pub extern "C" fn yarrowbell_read_single(s: &[u8], count: usize) -> ReadSingle
     ReadSingle {
         answer: r.answer,
         ident: f.ident,
-        used: r.used,
+        used: r.used as u16,
         single,
     }
 }

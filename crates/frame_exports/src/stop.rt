@@ -10,7 +10,7 @@ ghost use Rattle.frame_exports.specs.Reports.{asStop};
 pub struct ReadStop {
     pub answer: u8,
     pub ident: u8,
-    pub used: usize,
+    pub used: u16,
 }
 
 #[no_mangle]
@@ -22,7 +22,7 @@ pub extern "C" fn yarrowbell_read_stop(s: &[u8], count: usize) -> ReadStop
     ReadStop {
         answer: r.answer,
         ident: f.ident,
-        used: r.used,
+        used: r.used as u16,
     }
 }
 

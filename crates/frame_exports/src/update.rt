@@ -16,7 +16,7 @@ pub struct Settings {
 pub struct ReadUpdate {
     pub answer: u8,
     pub ident: u8,
-    pub used: usize,
+    pub used: u16,
     pub settings: [Setting; 8],
 }
 
@@ -30,7 +30,7 @@ pub extern "C" fn yarrowbell_read_update(s: &[u8], count: usize) -> ReadUpdate
     ReadUpdate {
         answer: r.answer,
         ident: f.ident,
-        used: r.used,
+        used: r.used as u16,
         settings,
     }
 }

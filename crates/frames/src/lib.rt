@@ -31,7 +31,7 @@ pub struct Fields {
 // What the reader reports: its answer, the bytes used and the fields; 0 and all zero on a refusal.
 pub struct Read {
     pub answer: u8,
-    pub used: usize,
+    pub used: u8,
     pub fields: Fields,
 }
 

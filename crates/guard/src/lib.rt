@@ -40,7 +40,7 @@ pub fn readout(b: Box, buf: &[u8], at: Part, out: &mut [u8]) -> Readout
         return readout::read_out(buf, at, ring, out);
     }
     Readout {
-        answer: answers::BOX_NOT_GOOD,
+        answer: answers::BOX_NOT_GOOD as u32,
         used: 0,
     }
 }

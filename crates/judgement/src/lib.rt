@@ -24,7 +24,7 @@ pub fn judge_init(p: Profile, v: Init) -> u8
     ensures { λ r. ⌜ r ≡ firstOf (5 when not (initTiming v) ∷ 9 when ltb (t1 (v .main)) (p .shortest) ∷ []) ⌝ }
 {
     if timing::init_timing(v) {
-        if timing::main_period(v.main) < p.shortest as u32 {
+        if timing::main_period(v.main) < p.shortest {
             return answers::OVER_LIMIT;
         }
         return answers::DONE;

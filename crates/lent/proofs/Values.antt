@@ -32,7 +32,7 @@ said-val r = LL.val S.the-type S′.the-laws r
 pub said-at : fieldOf K′.mir 0 ≡ some (S′.mir, 0)
 said-at = refl
 
-pub next-at : fieldOf K′.mir 1 ≡ some (T′.mir, 32)
+pub next-at : fieldOf K′.mir 1 ≡ some (T′.mir, 20)
 next-at = refl
 
 pub is-said : (r : Called) (vs : List Val) → Is K.the-row r vs → Is S.the-row (r .said) (said-val (r .said) ∷ [])

@@ -9,7 +9,7 @@ pub struct Profile {
     pub currents: [u8; 8],
     pub widths: [u16; 8],
     pub charge: u32,
-    pub shortest: u16,
+    pub shortest: u32,
     pub watchdog: u32,
 }
 
@@ -17,12 +17,12 @@ pub struct Profile {
 #[repr(C)]
 pub struct Run {
     pub list: Init,
-    pub settings: [Setting; 8],
-    pub waits: u8,
-    pub waiting: [Setting; 8],
     pub position: u16,
     pub cycle: u32,
     pub watch: u32,
+    pub waits: u32,
+    pub settings: [Setting; 8],
+    pub waiting: [Setting; 8],
 }
 
 // Settings for eight channels, all zero.
@@ -31,20 +31,20 @@ pub const SILENCE: [Setting; 8] = [commands::NO_SETTING; 8];
 // What a box has that is not running.
 pub const STILL: Run = Run {
     list: commands::NO_INIT,
-    settings: SILENCE,
-    waits: 0,
-    waiting: SILENCE,
     position: 0,
     cycle: 0,
     watch: 0,
+    waits: 0,
+    settings: SILENCE,
+    waiting: SILENCE,
 };
 
 // The states.
-pub const IDLE: u8 = 0;
+pub const IDLE: u16 = 0;
 
-pub const RUNNING: u8 = 1;
+pub const RUNNING: u16 = 1;
 
-pub const TRIPPED: u8 = 2;
+pub const TRIPPED: u16 = 2;
 
 // The channels of a module: A has 1 to 4, B has 5 to 8.
 pub const MODULE: u8 = 4;
@@ -57,6 +57,6 @@ pub const HOLD: u8 = 15;
 pub struct Core {
     pub holda: u8,
     pub holdb: u8,
-    pub state: u8,
+    pub state: u16,
     pub run: Run,
 }

@@ -13,14 +13,14 @@ ghost use Rattle.partial.specs.Partial.{zeros, unusedZero};
 #[repr(C)]
 pub struct PartialFrame {
     pub bytes: [u8; 25],
-    pub len: usize,
-    pub kept: usize,
+    pub kept: u8,
+    pub len: u16,
 }
 
 pub const NO_FRAME: PartialFrame = PartialFrame {
     bytes: [0; 25],
-    len: 0,
     kept: 0,
+    len: 0,
 };
 
 // An Update's length: the running list's, or any list's when tripped; no Update is open when idle.
@@ -81,24 +81,27 @@ fn good_used(m: Core, q: PartialFrame) -> bool
     requires { ⌜ q .len ≤ 25 ⌝ }
     ensures { λ r. ⌜ r ≡ goodPartial m (q .kept) (take (q .len) (q .bytes)) ⌝ }
 {
-    if q.len == 0 {
-        return q.kept == 0;
+    let len = q.len as usize;
+    let kept = q.kept as usize;
+    if len == 0 {
+        return kept == 0;
     }
     let bytes = q.bytes;
     let first = bytes[0];
     bits::is_high(first)
-        & all_low(bytes, q.len)
-        & (q.len < q.kept)
-        & good_size(m, frames::ident_of(first), q.kept)
+        & all_low(bytes, len)
+        & (len < kept)
+        & good_size(m, frames::ident_of(first), kept)
 }
 
 // Bytes not in use are zero, and those in use are a good partial frame.
 pub fn good_partial(m: Core, q: PartialFrame) -> bool
     ensures { λ r. ⌜ r ≡ unusedZero q && goodPartial m (q .kept) (take (q .len) (q .bytes)) ⌝ }
 {
-    if q.len <= 25 {
+    let len = q.len as usize;
+    if len <= 25 {
         let bytes = q.bytes;
-        return rest_zero(bytes, q.len) & good_used(m, q);
+        return rest_zero(bytes, len) & good_used(m, q);
     }
     false
 }

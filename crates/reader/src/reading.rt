@@ -37,7 +37,7 @@ pub fn refuse(answer: u8) -> Read
 }
 
 // 3; 4; else the fields.
-fn judged(right: bool, good: bool, used: usize, fields: Fields) -> Read
+fn judged(right: bool, good: bool, used: u8, fields: Fields) -> Read
     ensures { λ r. ⌜ r ≡ cond right (cond good (record { answer = 0; used = used; fields = fields }) (refused 4)) (refused 3) ⌝ }
 {
     if right {
@@ -65,7 +65,7 @@ pub fn read_init(s: &[u8]) -> Read
     judged(
         bits::take_field(w, 37, 3) == checks::check_init(v),
         commands::good_init(v),
-        sizes::INIT,
+        sizes::INIT as u8,
         fields,
     )
 }
@@ -80,7 +80,8 @@ pub fn read_update(s: &[u8], count: usize) -> Read
     let mut fields = nothing();
     fields.ident = idents::UPDATE;
     fields.entries = entries;
-    judged(right, good, sizes::FIRST + sizes::ENTRY * count, fields)
+    let used = sizes::FIRST + sizes::ENTRY * count;
+    judged(right, good, used as u8, fields)
 }
 
 pub fn read_stop(first: u8) -> Read
@@ -88,7 +89,12 @@ pub fn read_stop(first: u8) -> Read
 {
     let mut fields = nothing();
     fields.ident = idents::STOP;
-    judged(layout::check_of(first) == 0, true, sizes::STOP, fields)
+    judged(
+        layout::check_of(first) == 0,
+        true,
+        sizes::STOP as u8,
+        fields,
+    )
 }
 
 pub fn read_single(s: &[u8]) -> Read
@@ -100,5 +106,5 @@ pub fn read_single(s: &[u8]) -> Read
     let mut fields = nothing();
     fields.ident = idents::SINGLE;
     fields.single = v;
-    judged(right, commands::good_single(v), sizes::SINGLE, fields)
+    judged(right, commands::good_single(v), sizes::SINGLE as u8, fields)
 }

@@ -3,10 +3,10 @@
 // The layout that both sides rely on (x86-64 Linux, C's rules, numbers in the machine's order):
 //   &[u8], &mut [u8]   two arguments, a pointer and then a length of 8 bytes
 //   Part               16 bytes: offset 0, size 8 (8 bytes each)
-//   Ring               24 bytes: capacity 0, start 8, used 16 (8 bytes each)
-//   Pushed             32 bytes: answer 0, ring 8
-//   Readout            16 bytes: answer 0, used 8 (8 bytes)
-// Structs go by value. Bytes of a struct that no field has are left to chance.
+//   Ring               12 bytes: capacity 0, start 4, used 8 (4 bytes each)
+//   Pushed             16 bytes: answer 0 (4 bytes), ring 4
+//   Readout            8 bytes: answer 0, used 4 (4 bytes each)
+// Structs go by value. Every byte of a struct is a field's.
 use trace::Part;
 use trace::Pushed;
 use trace::Readout;

@@ -63,7 +63,7 @@ fn fit(p: Profile, v: Init, settings: [Setting; 8]) -> bool
 }
 
 // The waiting update: its settings fit, or are zero while none waits, which then fit the list too.
-fn good_waiting(p: Profile, v: Init, waits: u8, waiting: [Setting; 8]) -> bool
+fn good_waiting(p: Profile, v: Init, waits: u32, waiting: [Setting; 8]) -> bool
     ensures { λ o. ⌜ (initTiming v ≡ true → o ≡ waitingFits p v waits waiting) ⌝ }
 {
     if waits == 1 {
@@ -81,7 +81,7 @@ fn good_run(p: Profile, clock: u32, r: Run) -> bool
     let period = timing::main_period(v.main);
     good_list(v)
         & timing::init_timing(v)
-        & (p.shortest as u32 <= period)
+        & (p.shortest <= period)
         & fit(p, v, settings)
         & good_waiting(p, v, r.waits, waiting)
         & ((r.position as u32) < period)

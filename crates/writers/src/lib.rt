@@ -15,7 +15,7 @@ ghost use Rattle.writers.specs.Writer.{wrote, written};
 #[repr(C)]
 pub struct Wrote {
     pub answer: u8,
-    pub used: usize,
+    pub used: u8,
 }
 
 pub fn write_init(v: Init, out: &mut [u8]) -> Wrote
@@ -31,7 +31,7 @@ pub fn write_init(v: Init, out: &mut [u8]) -> Wrote
         storing::put_init(v, out);
         return Wrote {
             answer: answers::DONE,
-            used: sizes::INIT,
+            used: sizes::INIT as u8,
         };
     }
     Wrote {
@@ -54,7 +54,7 @@ pub fn write_update(count: usize, entries: [Setting; 8], out: &mut [u8]) -> Wrot
         storing::put_update(count, entries, out);
         return Wrote {
             answer: answers::DONE,
-            used: sizes::FIRST + sizes::ENTRY * count,
+            used: (sizes::FIRST + sizes::ENTRY * count) as u8,
         };
     }
     Wrote {
@@ -75,7 +75,7 @@ pub fn write_stop(out: &mut [u8]) -> Wrote
     out[0] = storing::head_of(idents::STOP, 0);
     Wrote {
         answer: answers::DONE,
-        used: sizes::STOP,
+        used: sizes::STOP as u8,
     }
 }
 
@@ -92,7 +92,7 @@ pub fn write_single(v: Single, out: &mut [u8]) -> Wrote
         storing::put_single(v, out);
         return Wrote {
             answer: answers::DONE,
-            used: sizes::SINGLE,
+            used: sizes::SINGLE as u8,
         };
     }
     Wrote {

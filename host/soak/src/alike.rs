@@ -11,7 +11,8 @@ pub fn part(at: Part) -> raw::Part {
 
 #[inline(always)]
 pub fn ring(ring: Ring) -> raw::Ring {
-    raw::Ring { capacity: ring.capacity, start: ring.start, used: ring.used }
+    let Ring { capacity, start, used } = ring;
+    raw::Ring { capacity: narrow(capacity), start: narrow(start), used: narrow(used) }
 }
 
 pub fn init(init: Init) -> raw::Init {
@@ -61,27 +62,38 @@ pub fn record(record: &BoxRecord) -> raw::BoxRecord {
 }
 
 pub fn said(said: Said) -> raw::Said {
-    raw::Said { answer: said.answer, reply: said.reply, a: released(said.a), b: released(said.b) }
+    raw::Said {
+        answer: said.answer.into(),
+        reply: said.reply.into(),
+        a: released(said.a),
+        b: released(said.b),
+    }
 }
 
 fn run(run: &Run) -> raw::Run {
     raw::Run {
         list: init(run.list),
-        settings: settings(run.settings),
-        waits: run.waits,
-        waiting: settings(run.waiting),
         position: run.position,
         cycle: run.cycle,
         watch: run.watch,
+        waits: run.waits,
+        settings: settings(run.settings),
+        waiting: settings(run.waiting),
     }
 }
 
 fn partial(partial: PartialFrame) -> raw::PartialFrame {
     let PartialFrame { bytes, len, kept } = partial;
-    raw::PartialFrame { bytes, len, kept }
+    raw::PartialFrame { bytes, kept: narrow(kept), len: narrow(len) }
 }
 
 fn released(pulse: Pulse) -> raw::Released {
     let Pulse { clock, channel, width, current } = pulse;
     raw::Released { clock, channel, width, current }
+}
+
+/// A size in the width that the library's record has for it.
+#[inline(always)]
+fn narrow<T: TryFrom<usize, Error = std::num::TryFromIntError>>(size: usize) -> T {
+    size.try_into().expect("the independent machine's sizes came from a record")
 }

@@ -27,7 +27,7 @@ pub const FIELDS: [(&str, Change); 33] = [
     }),
     ("profile.shortest", |rng, record, _| {
         let bounds = [30, 10_235, t1(record)];
-        middle(rng, &mut record.profile.shortest, &bounds);
+        large(rng, &mut record.profile.shortest, &bounds);
     }),
     ("profile.watchdog", |rng, record, _| {
         let bounds = [1, 600_000, record.core.run.watch.into()];
@@ -39,7 +39,7 @@ pub const FIELDS: [(&str, Change); 33] = [
     }),
     ("holda", |rng, record, _| small(rng, &mut record.core.holda, &[15])),
     ("holdb", |rng, record, _| small(rng, &mut record.core.holdb, &[15])),
-    ("state", |rng, record, _| small(rng, &mut record.core.state, &[2])),
+    ("state", |rng, record, _| middle(rng, &mut record.core.state, &[2])),
     ("list.factor", |rng, record, _| small(rng, &mut record.core.run.list.factor, &[7])),
     ("list.stim", |rng, record, channel| {
         let other = record.core.run.list.stim ^ 1 << channel;
@@ -62,7 +62,7 @@ pub const FIELDS: [(&str, Change); 33] = [
         let setting = &mut record.core.run.settings[channel];
         current(rng, setting, &record.profile, channel);
     }),
-    ("waits", |rng, record, _| small(rng, &mut record.core.run.waits, &[1])),
+    ("waits", |rng, record, _| large(rng, &mut record.core.run.waits, &[1])),
     ("waiting.mode", |rng, record, channel| {
         small(rng, &mut record.core.run.waiting[channel].mode, &[2]);
     }),
@@ -91,37 +91,37 @@ pub const FIELDS: [(&str, Change); 33] = [
     }),
     ("partial.bytes, used", |rng, record, _| {
         let place = rng.gen_range(0..record.partial.len.max(1));
-        small(rng, &mut record.partial.bytes[place], &[0x7F]);
+        small(rng, &mut record.partial.bytes[usize::from(place)], &[0x7F]);
     }),
     ("partial.bytes, unused", |rng, record, _| {
         let place = rng.gen_range(record.partial.len..25);
-        small(rng, &mut record.partial.bytes[place], &[1]);
+        small(rng, &mut record.partial.bytes[usize::from(place)], &[1]);
     }),
     ("partial.len", |rng, record, _| {
-        let bounds = [record.partial.kept, 25];
-        size(rng, &mut record.partial.len, &bounds);
+        let bounds = [record.partial.kept.into(), 25];
+        middle(rng, &mut record.partial.len, &bounds);
     }),
     ("partial.kept", |rng, record, _| {
-        let other = record.partial.kept + any(rng, &[3, 6, 25]);
-        let bounds = [record.partial.len, 1, 4, 6, 25, other];
-        size(rng, &mut record.partial.kept, &bounds);
+        let other = u64::from(record.partial.kept) + any(rng, &[3, 6, 25]);
+        let bounds = [record.partial.len.into(), 1, 4, 6, 25, other];
+        small(rng, &mut record.partial.kept, &bounds);
     }),
     ("ring.capacity", |rng, record, _| {
-        let bounds = [16, 4_096, record.ring.used];
-        size(rng, &mut record.ring.capacity, &bounds);
+        let bounds = [16, 4_096, record.ring.used.into()];
+        large(rng, &mut record.ring.capacity, &bounds);
     }),
     ("ring.start", |rng, record, _| {
-        let bounds = [record.ring.capacity];
-        size(rng, &mut record.ring.start, &bounds);
+        let bounds = [record.ring.capacity.into()];
+        large(rng, &mut record.ring.start, &bounds);
     }),
     ("ring.used", |rng, record, _| {
-        let bounds = [record.ring.capacity];
-        size(rng, &mut record.ring.used, &bounds);
+        let bounds = [record.ring.capacity.into()];
+        large(rng, &mut record.ring.used, &bounds);
     }),
     ("ring.used, with its start", |rng, record, _| {
-        let bounds = [record.ring.capacity];
+        let bounds = [record.ring.capacity.into()];
         record.ring.start = rng.gen_range(0..record.ring.capacity);
-        size(rng, &mut record.ring.used, &bounds);
+        large(rng, &mut record.ring.used, &bounds);
     }),
 ];
 
@@ -145,7 +145,7 @@ pub fn byte(rng: &mut SmallRng, record: &BoxRecord, at: Part, buffer: &mut [u8])
         let within = rng.gen_range(0..ring.used);
         let number = any(rng, &[0, ring.used - 1, within]);
         let place = ring.start.checked_add(number).and_then(|far| far.checked_rem(ring.capacity));
-        place.and_then(|place| at.offset.checked_add(place))
+        place.and_then(|place| at.offset.checked_add(place as usize))
     };
     if let Some(byte) = place.and_then(|place| buffer.get_mut(place)) {
         *byte = any(rng, &[0, 1, 2, 3, 4, 255]);

@@ -50,7 +50,7 @@ impl History<'_> {
         let rng = &mut self.rng;
         let profile = if once_in(rng, 20) { profiles::not_good(rng) } else { profiles::good(rng) };
         let capacity = match rng.gen_range(0..40) {
-            0 => any(rng, &[0, 15, 4_097, usize::MAX]),
+            0 => any(rng, &[0, 15, 4_097, u32::MAX]),
             1..=4 => any(rng, &[4_095, 4_096]),
             5..=7 => rng.gen_range(16..=4_096),
             8..=10 => 16,
@@ -62,10 +62,11 @@ impl History<'_> {
             return Ok(None);
         }
         let mut record = made.made;
-        let (mut buffer, at) = lent(rng, capacity);
+        let (mut buffer, at) = lent(rng, capacity as usize);
         if rng.gen() {
             record.ring.start = rng.gen_range(0..capacity);
-            record.ring.used = lay(rng, &mut buffer[at.offset..][..capacity], record.ring.start);
+            let part = &mut buffer[at.offset..][..at.size];
+            record.ring.used = lay(rng, part, record.ring.start as usize) as u32;
         }
         Ok(Some(Three::new(record, &buffer, at)))
     }
@@ -161,7 +162,7 @@ impl History<'_> {
 
 /// The length of an output: that of the trace, longer or shorter.
 fn room(rng: &mut SmallRng, unit: &BoxRecord) -> usize {
-    let used = unit.ring.used;
+    let used = unit.ring.used as usize;
     match rng.gen_range(0..6) {
         0 => 0,
         1 => used.saturating_sub(1),

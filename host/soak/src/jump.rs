@@ -5,8 +5,8 @@ use rand::rngs::SmallRng;
 use rand::Rng;
 use yarrowbell::raw::{BoxRecord, PartialFrame};
 
-const RUNNING: u8 = 1;
-const TRIPPED: u8 = 2;
+const RUNNING: u16 = 1;
+const TRIPPED: u16 = 2;
 
 /// Clock, holds and what a running list counts are other good numbers, often just before their
 /// ends. A tripped box may have an Update open.
@@ -54,5 +54,5 @@ fn open_update(rng: &mut SmallRng) -> PartialFrame {
     let mut bytes = [0; 25];
     bytes[0] = rng.gen_range(0xA0..0xC0);
     bytes[1..len].fill_with(|| rng.gen_range(0..0x80));
-    PartialFrame { bytes, len, kept }
+    PartialFrame { bytes, kept: kept as u8, len: len as u16 }
 }

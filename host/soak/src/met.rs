@@ -4,8 +4,8 @@ use crate::three::Call;
 use std::collections::BTreeMap;
 use yarrowbell::raw::{BoxRecord, Said};
 
-const RUNNING: u8 = 1;
-const TRIPPED: u8 = 2;
+const RUNNING: u16 = 1;
+const TRIPPED: u16 = 2;
 
 const COMMANDS: [&str; 4] = ["Init", "Update", "Stop", "Single"];
 const STATES: [&str; 3] = ["idle", "running", "tripped"];
@@ -58,9 +58,9 @@ pub struct Met {
 }
 
 impl Met {
-    pub fn made(&mut self, answer: u8) {
+    pub fn made(&mut self, answer: u32) {
         self.calls += 1;
-        self.made[usize::from(answer)] += 1;
+        self.made[answer as usize] += 1;
     }
 
     /// A call, with the box before and after it.
@@ -87,7 +87,7 @@ impl Met {
     }
 
     /// A call on a record that had this field damaged.
-    pub fn damaged(&mut self, field: &'static str, answer: u8) {
+    pub fn damaged(&mut self, field: &'static str, answer: u16) {
         let refused = self.damaged.entry(field).or_default();
         *refused += u64::from(answer == 12);
     }

@@ -44,7 +44,15 @@ pub fn given(record: &raw::BoxRecord) -> plain::BoxRecord {
             cycle: run.cycle,
             watch: run.watch,
         },
-        partial: plain::PartialFrame { bytes: partial.bytes, len: partial.len, kept: partial.kept },
-        ring: Ring { capacity: ring.capacity, start: ring.start, used: ring.used },
+        partial: plain::PartialFrame {
+            bytes: partial.bytes,
+            len: partial.len.into(),
+            kept: partial.kept.into(),
+        },
+        ring: Ring {
+            capacity: ring.capacity as usize,
+            start: ring.start as usize,
+            used: ring.used as usize,
+        },
     }
 }

@@ -39,7 +39,7 @@ pub fn not_good(rng: &mut SmallRng) -> Profile {
         0 => profile.currents[channel] = any(rng, &[128, 129, 255]),
         1 => profile.widths[channel] = any(rng, &[501, 512, u16::MAX]),
         2 => profile.charge = any(rng, &[63_501, 65_536, u32::MAX]),
-        3 => profile.shortest = any(rng, &[0, 29, 10_236, u16::MAX]),
+        3 => profile.shortest = any(rng, &[0, 29, 10_236, 65_566, u32::MAX]),
         _ => profile.watchdog = any(rng, &[0, 600_001, u32::MAX]),
     }
     profile

@@ -29,10 +29,10 @@ pub struct Three {
 }
 
 /// Makes a box by the library and by the independent machine. Hands back the answer and the record.
-pub fn make(profile: Profile, capacity: usize) -> Result<Made, String> {
-    let expected = match plain::BoxRecord::new(numbers::profile(profile), capacity) {
+pub fn make(profile: Profile, capacity: u32) -> Result<Made, String> {
+    let expected = match plain::BoxRecord::new(numbers::profile(profile), capacity as usize) {
         Ok(record) => Made { answer: 0, made: alike::record(&record) },
-        Err(answer) => Made { answer, made: BoxRecord::default() },
+        Err(answer) => Made { answer: answer.into(), made: BoxRecord::default() },
     };
     let made = calls::make(profile, capacity);
     same(&made, &expected, || format!("a box of capacity {capacity} and {profile:?}"))?;
@@ -110,12 +110,12 @@ impl Three {
         let readout = calls::readout(*self.in_place, self.buffer(), self.at, &mut out);
         let plain = &self.buffers[2];
         let expected = match self.plain.read_out(plain, numbers::part(self.at), &mut expected_out) {
-            Ok(used) => Readout { answer: 0, used },
-            Err(answer) => Readout { answer, used: 0 },
+            Ok(used) => Readout { answer: 0, used: used as u32 },
+            Err(answer) => Readout { answer: answer.into(), used: 0 },
         };
         same(&readout, &expected, || told("the report"))?;
         same_bytes(&out, &expected_out, || told("the output"))?;
-        Ok([Said { answer: expected.answer, ..Said::default() }; 3])
+        Ok([Said { answer: expected.answer as u16, ..Said::default() }; 3])
     }
 
     /// Whether box and buffer are those of another.

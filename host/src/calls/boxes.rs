@@ -2,7 +2,7 @@
 
 use crate::raw::{self, BoxRecord, Called, Made, Part, Profile, Readout, Said};
 
-pub fn make(profile: Profile, capacity: usize) -> Made {
+pub fn make(profile: Profile, capacity: u32) -> Made {
     // SAFETY: it takes and gives numbers alone.
     unsafe { raw::yarrowbell_make(profile, capacity) }
 }

@@ -10,7 +10,7 @@ pub struct Profile {
     pub currents: [u8; 8],
     pub widths: [u16; 8],
     pub charge: u32,
-    pub shortest: u16,
+    pub shortest: u32,
     pub watchdog: u32,
 }
 
@@ -19,13 +19,13 @@ pub struct Profile {
 #[repr(C)]
 pub struct Run {
     pub list: Init,
-    pub settings: [Setting; 8],
-    /// 1 while an update waits, else 0.
-    pub waits: u8,
-    pub waiting: [Setting; 8],
     pub position: u16,
     pub cycle: u32,
     pub watch: u32,
+    /// 1 while an update waits, else 0.
+    pub waits: u32,
+    pub settings: [Setting; 8],
+    pub waiting: [Setting; 8],
 }
 
 /// The holds of modules A and B, and the state: 0 idle, 1 running, 2 tripped.
@@ -34,17 +34,17 @@ pub struct Run {
 pub struct Core {
     pub holda: u8,
     pub holdb: u8,
-    pub state: u8,
+    pub state: u16,
     pub run: Run,
 }
 
-/// The bytes of an unfinished frame, how many they are, and how many the frame will have.
+/// The bytes of an unfinished frame, how many the frame will have, and how many they are.
 #[derive(Clone, Copy, Debug, Default, PartialEq, Eq)]
 #[repr(C)]
 pub struct PartialFrame {
     pub bytes: [u8; 25],
-    pub len: usize,
-    pub kept: usize,
+    pub kept: u8,
+    pub len: u16,
 }
 
 /// All that a box keeps, but for its ring's bytes.
@@ -63,8 +63,8 @@ pub struct BoxRecord {
 #[repr(C)]
 pub struct Released {
     pub clock: u32,
-    pub channel: u8,
     pub width: u16,
+    pub channel: u8,
     pub current: u8,
 }
 
@@ -72,8 +72,8 @@ pub struct Released {
 #[derive(Clone, Copy, Debug, Default, PartialEq, Eq)]
 #[repr(C)]
 pub struct Said {
-    pub answer: u8,
-    pub reply: u8,
+    pub answer: u16,
+    pub reply: u16,
     pub a: Released,
     pub b: Released,
 }
@@ -82,7 +82,7 @@ pub struct Said {
 #[derive(Clone, Copy, Debug, Default, PartialEq, Eq)]
 #[repr(C)]
 pub struct Made {
-    pub answer: u8,
+    pub answer: u32,
     pub made: BoxRecord,
 }
 
@@ -95,7 +95,7 @@ pub struct Called {
 }
 
 extern "C" {
-    pub(crate) fn yarrowbell_make(profile: Profile, capacity: usize) -> Made;
+    pub(crate) fn yarrowbell_make(profile: Profile, capacity: u32) -> Made;
     pub(crate) fn yarrowbell_byte(
         record: BoxRecord,
         buffer: *mut u8,

@@ -11,12 +11,12 @@ pub struct Init {
     pub main: u16,
 }
 
-/// One channel's variables of an Update frame: Mode, Pulse_Width, Pulse_Current.
+/// One channel's variables of an Update frame: Pulse_Width, Mode, Pulse_Current.
 #[derive(Clone, Copy, Debug, Default, PartialEq, Eq)]
 #[repr(C)]
 pub struct Setting {
-    pub mode: u8,
     pub width: u16,
+    pub mode: u8,
     pub current: u8,
 }
 
@@ -28,12 +28,12 @@ pub struct Settings {
     pub all: [Setting; 8],
 }
 
-/// The variables of a Single frame: Channel_Number (0 to 7), Pulse_Width, Pulse_Current.
+/// The variables of a Single frame: Pulse_Width, Channel_Number (0 to 7), Pulse_Current.
 #[derive(Clone, Copy, Debug, Default, PartialEq, Eq)]
 #[repr(C)]
 pub struct Single {
-    pub channel: u8,
     pub width: u16,
+    pub channel: u8,
     pub current: u8,
 }
 
@@ -42,7 +42,7 @@ pub struct Single {
 #[repr(C)]
 pub struct Wrote {
     pub answer: u8,
-    pub used: usize,
+    pub used: u8,
 }
 
 /// What the reader reports, with the fields of an Init frame.
@@ -51,7 +51,7 @@ pub struct Wrote {
 pub struct ReadInit {
     pub answer: u8,
     pub ident: u8,
-    pub used: usize,
+    pub used: u16,
     pub init: Init,
 }
 
@@ -61,7 +61,7 @@ pub struct ReadInit {
 pub struct ReadUpdate {
     pub answer: u8,
     pub ident: u8,
-    pub used: usize,
+    pub used: u16,
     pub settings: [Setting; 8],
 }
 
@@ -71,7 +71,7 @@ pub struct ReadUpdate {
 pub struct ReadStop {
     pub answer: u8,
     pub ident: u8,
-    pub used: usize,
+    pub used: u16,
 }
 
 /// What the reader reports, with the fields of a Single frame.
@@ -80,7 +80,7 @@ pub struct ReadStop {
 pub struct ReadSingle {
     pub answer: u8,
     pub ident: u8,
-    pub used: usize,
+    pub used: u16,
     pub single: Single,
 }
 

@@ -13,16 +13,16 @@ pub struct Part {
 #[derive(Clone, Copy, Debug, Default, PartialEq, Eq)]
 #[repr(C)]
 pub struct Ring {
-    pub capacity: usize,
-    pub start: usize,
-    pub used: usize,
+    pub capacity: u32,
+    pub start: u32,
+    pub used: u32,
 }
 
 /// What a push reports, with the ring that it leaves.
 #[derive(Clone, Copy, Debug, Default, PartialEq, Eq)]
 #[repr(C)]
 pub struct Pushed {
-    pub answer: u8,
+    pub answer: u32,
     pub ring: Ring,
 }
 
@@ -30,8 +30,8 @@ pub struct Pushed {
 #[derive(Clone, Copy, Debug, Default, PartialEq, Eq)]
 #[repr(C)]
 pub struct Readout {
-    pub answer: u8,
-    pub used: usize,
+    pub answer: u32,
+    pub used: u32,
 }
 
 extern "C" {

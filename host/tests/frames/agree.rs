@@ -12,11 +12,11 @@ pub fn read(bytes: &[u8], count: usize) -> Result<Frame, u8> {
     let mut single = raw::ReadSingle::default();
     match &expected {
         Ok(frame) => {
-            let ident = frame.command.kind() as u8;
-            (init.ident, init.used) = (ident, frame.used);
-            (update.ident, update.used) = (ident, frame.used);
-            (stop.ident, stop.used) = (ident, frame.used);
-            (single.ident, single.used) = (ident, frame.used);
+            let (ident, used) = (frame.command.kind() as u8, frame.used as u16);
+            (init.ident, init.used) = (ident, used);
+            (update.ident, update.used) = (ident, used);
+            (stop.ident, stop.used) = (ident, used);
+            (single.ident, single.used) = (ident, used);
             match ours(&frame.command) {
                 yarrowbell::Command::Init(fields) => init.init = fields,
                 yarrowbell::Command::Update(fields) => update.settings = fields,
@@ -66,7 +66,7 @@ pub fn write(command: &Command, count: usize, room: usize) -> Result<Vec<u8>, u8
         yarrowbell::Command::Single(single) => calls::write_single(single, out),
     };
     let report = match answer {
-        Ok(used) => raw::Wrote { answer: 0, used },
+        Ok(used) => raw::Wrote { answer: 0, used: used as u8 },
         Err(answer) => raw::Wrote { answer, used: 0 },
     };
     assert_eq!(wrote, report, "{command:?}, count {count}, room {room}");

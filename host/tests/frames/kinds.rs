@@ -9,8 +9,7 @@ const STOP: &[u8] = &[0xC0];
 const SINGLE: &[u8] = &[0xE2, 0x21, 0x48, 0x78];
 
 /// Ident, bytes and frame: the fields are those of document 01's cases 1, 5, 6 and 7.
-const FRAMES: [(u8, usize, &[u8]); 4] =
-    [(0, 6, INIT), (1, 7, UPDATE), (2, 1, STOP), (3, 4, SINGLE)];
+const FRAMES: [(u8, u16, &[u8]); 4] = [(0, 6, INIT), (1, 7, UPDATE), (2, 1, STOP), (3, 4, SINGLE)];
 
 #[test]
 fn fields_of_its_own_kind_alone() {

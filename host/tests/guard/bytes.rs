@@ -8,20 +8,20 @@ use yarrowbell::raw::Part;
 pub struct ProfileBytes(pub [u8; 36]);
 
 #[derive(Clone, Copy, Debug, PartialEq, Eq)]
-#[repr(C, align(8))]
-pub struct BoxBytes(pub [u8; 232]);
+#[repr(C, align(4))]
+pub struct BoxBytes(pub [u8; 168]);
 
 #[repr(C, align(4))]
-pub struct SaidBytes(pub [u8; 28]);
+pub struct SaidBytes(pub [u8; 20]);
 
-#[repr(C, align(8))]
-pub struct MadeBytes(pub [u8; 240]);
+#[repr(C, align(4))]
+pub struct MadeBytes(pub [u8; 172]);
 
-#[repr(C, align(8))]
-pub struct CalledBytes(pub [u8; 264]);
+#[repr(C, align(4))]
+pub struct CalledBytes(pub [u8; 188]);
 
 extern "C" {
-    fn yarrowbell_make(profile: ProfileBytes, capacity: usize) -> MadeBytes;
+    fn yarrowbell_make(profile: ProfileBytes, capacity: u32) -> MadeBytes;
     fn yarrowbell_byte(
         record: BoxBytes,
         buffer: *mut u8,
@@ -45,7 +45,7 @@ extern "C" {
     ) -> SaidBytes;
 }
 
-pub fn make(profile: ProfileBytes, capacity: usize) -> MadeBytes {
+pub fn make(profile: ProfileBytes, capacity: u32) -> MadeBytes {
     // SAFETY: it takes and gives numbers alone.
     unsafe { yarrowbell_make(profile, capacity) }
 }

@@ -31,7 +31,7 @@ pub fn push(placed: &mut Placed, new: Record) -> Result<Ring, u8> {
     let expected = ring.push(buffer.slice_mut(), at, &new);
     let report = match expected {
         Ok(left) => raw::Pushed { answer: 0, ring: numbers(left) },
-        Err(answer) => raw::Pushed { answer, ring: numbers(ring) },
+        Err(answer) => raw::Pushed { answer: answer.into(), ring: numbers(ring) },
     };
     let lent = placed.buffer.slice_mut();
     let (at, ring) = (part(at), numbers(ring));
@@ -59,8 +59,8 @@ pub fn read_out(rng: &mut SmallRng, placed: &Placed, room: usize) -> Result<Vec<
     let mut expected = out.clone();
     let answer = ring.read_out(buffer.slice(), *at, expected.slice_mut());
     let report = match answer {
-        Ok(used) => raw::Readout { answer: 0, used },
-        Err(answer) => raw::Readout { answer, used: 0 },
+        Ok(used) => raw::Readout { answer: 0, used: used as u32 },
+        Err(answer) => raw::Readout { answer: answer.into(), used: 0 },
     };
     let readout = calls::ring_read_out(buffer.slice(), part(*at), numbers(*ring), out.slice_mut());
     assert_eq!(readout, report, "{}", said());
@@ -100,5 +100,7 @@ fn part(at: Part) -> raw::Part {
 }
 
 fn numbers(ring: Ring) -> raw::Ring {
-    raw::Ring { capacity: ring.capacity, start: ring.start, used: ring.used }
+    let [capacity, start, used] = [ring.capacity, ring.start, ring.used]
+        .map(|number| number.try_into().expect("a ring's numbers have 4 bytes"));
+    raw::Ring { capacity, start, used }
 }

@@ -5,16 +5,8 @@ use independent::Part;
 use rand::Rng;
 
 /// Numbers past every bound; among them some that would be small with their high bits lost.
-const HUGE: [usize; 8] = [
-    65_536,
-    65_536 + 16,
-    1 << 32,
-    (1 << 32) + 16,
-    1 << 63,
-    (1 << 63) + 16,
-    usize::MAX - 1,
-    usize::MAX,
-];
+const HUGE: [usize; 6] =
+    [65_536, 65_536 + 16, 1 << 31, (1 << 31) + 16, u32::MAX as usize - 1, u32::MAX as usize];
 
 /// The part has the size that the capacity asks for, and is in the buffer where one is so long.
 #[test]
@@ -89,7 +81,7 @@ fn any_numbers() {
         let mut placed = random::proper(rng, capacity);
         let ring = &mut placed.ring;
         for number in [&mut ring.capacity, &mut ring.start, &mut ring.used] {
-            let near = (*number).wrapping_add(rng.gen_range(0..=2)).wrapping_sub(1);
+            let near = (*number + rng.gen_range(0..=2)).saturating_sub(1);
             match rng.gen_range(0..6) {
                 0 => *number = random::any(rng, &all),
                 1 => *number = near,

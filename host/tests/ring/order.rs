@@ -5,15 +5,18 @@ use crate::{agree, random};
 use rand::rngs::SmallRng;
 use rand::Rng;
 
+/// The largest number that a ring has room for.
+const MOST: usize = u32::MAX as usize;
+
 /// Makes the ring's numbers wrong.
 fn spoil_numbers(rng: &mut SmallRng, placed: &mut Placed) {
     let (capacity, ring) = (placed.ring.capacity, &mut placed.ring);
     match rng.gen_range(0..5) {
-        0 => ring.capacity = random::any(rng, &[0, 1, 15, 4097, usize::MAX]),
+        0 => ring.capacity = random::any(rng, &[0, 1, 15, 4097, MOST]),
         1 => ring.start = capacity,
         2 => ring.used = capacity + 1,
-        3 => ring.start = usize::MAX,
-        _ => ring.used = usize::MAX,
+        3 => ring.start = MOST,
+        _ => ring.used = MOST,
     }
 }
 

@@ -10,11 +10,14 @@ use Rattle.arrival.proofs.finish.Tie as tie
 sized : (c : tie.Start) → length (c .args .q .bytes) ≡ 25
 sized c = search needs
 
+cast-len : tie.Need-cast-len
+cast-len c = search needs
+
 array-share-prefix-bytes : tie.Need-array-share-prefix-bytes
-array-share-prefix-bytes c = let s = c .before in omega (arith, sized s, s .pre .0)
+array-share-prefix-bytes c = let s = c .before .before in omega (arith, sized s, s .pre .0)
 
 slice-aggregate-decide : tie.Need-slice-aggregate-decide
-slice-aggregate-decide c = let s = c .before .before in sym (length-take-le (s .args .q .len) (s .args .q .bytes) (omega (arith, sized s, s .pre .0)))
+slice-aggregate-decide c = let s = c .before .before .before in sym (length-take-le (s .args .q .len) (s .args .q .bytes) (omega (arith, sized s, s .pre .0)))
 
 decide-requires : tie.Need-decide-requires
 decide-requires c κs = search needs
@@ -24,13 +27,14 @@ settle-requires c κs = search needs
 
 returns : tie.Need-returns
 returns c =
-    let s = c .before .before .before .before in
+    let s = c .before .before .before .before .before in
     c .settle .ensures ∙ rw (c .before .decide .ensures) (whole-settled (s .args .b) (take (s .args .q .len) (s .args .q .bytes)) (s .pre .1))
 
 pub finish-spec : {M : Type 1} → statement M
 finish-spec =
     tie.close
     (tie.spec
+    cast-len
     array-share-prefix-bytes
     slice-aggregate-decide
     decide-requires

@@ -17,10 +17,13 @@ returns : tie.Need-returns
 unfolding readoutOf readoutBytes
 returns c = simp (sym (c .before .before .before .before .before .before .good-box .ensures) ∙ c .before .before .before .before .before .if1 .taken) (c .before .before .read-out .ensures)
 
+cast-t9 : tie.Need-cast-t9
+cast-t9 c = search needs
+
 returns-2 : tie.Need-returns-2
 unfolding readoutOf readoutBytes
 returns-2 c = simp (sym (c .before .good-box .ensures) ∙ c .if1 .left) (refl, refl)
 
 pub readout-spec : {M : Type 1} → statement M
 readout-spec =
-    tie.close (tie.spec good-box-requires read-out-requires same-length returns returns-2)
+    tie.close (tie.spec good-box-requires read-out-requires same-length returns cast-t9 returns-2)

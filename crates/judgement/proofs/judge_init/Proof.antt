@@ -10,9 +10,6 @@ init-timing-requires c κs = search needs
 main-period-requires : tie.Need-main-period-requires
 main-period-requires c κs = search needs
 
-cast-if2 : tie.Need-cast-if2
-cast-if2 c = search needs
-
 returns : tie.Need-returns
 returns c =
     let timely = sym (c .before .before .before .before .init-timing .ensures) ∙ c .before .before .before .if1 .taken in
@@ -31,4 +28,4 @@ returns-3 c = simp (sym (c .before .init-timing .ensures) ∙ c .if1 .left)
 pub judge-init-spec : {M : Type 1} → statement M
 judge-init-spec =
     tie.close
-    (tie.spec init-timing-requires main-period-requires cast-if2 returns returns-2 returns-3)
+    (tie.spec init-timing-requires main-period-requires returns returns-2 returns-3)

@@ -4,6 +4,9 @@ use Rattle.partial.specs.Partial.{unusedZero}
 use Rattle.partial.proofs.good_partial.Statement.{statement}
 use Rattle.partial.proofs.good_partial.Tie as tie
 
+cast-len : tie.Need-cast-len
+cast-len c = search needs
+
 rest-zero-requires : tie.Need-rest-zero-requires
 rest-zero-requires c κs = search needs
 
@@ -19,4 +22,4 @@ unfolding unusedZero
 returns-2 c = rw (lt-leb _ _ (c .if1 .left))
 
 pub good-partial-spec : {M : Type 1} → statement M
-good-partial-spec = tie.close (tie.spec rest-zero-requires good-used-requires returns returns-2)
+good-partial-spec = tie.close (tie.spec cast-len rest-zero-requires good-used-requires returns returns-2)

@@ -10,9 +10,15 @@ use Rattle.partial.proofs.good_used.Tie as tie
 sized : (c : tie.Start) → length (c .args .q .bytes) ≡ 25
 sized c = search needs
 
+cast-len : tie.Need-cast-len
+cast-len c = search needs
+
+cast-kept : tie.Need-cast-kept
+cast-kept c = search needs
+
 returns : tie.Need-returns
 unfolding goodPartial
-returns c = rw (c .before .if1 .taken)
+returns c = rw (c .if1 .taken)
 
 array-read-first : tie.Need-array-read-first
 array-read-first c = search needs
@@ -31,9 +37,9 @@ good-size-requires c κs = search needs
 
 returns-2 : tie.Need-returns-2
 returns-2 c =
-    let low = c .before .before .before in
+    let low = c .before .before in
     let some = low .before .before .before .if1 .left in
-    let start = low .before .before .before .before .before in
+    let start = low .before .before .before .before .before .before in
     let q = start .args .q in
     rw (c .good-size .ensures, c .before .ident-of .ensures, low .all-low .ensures, low .before .is-high .ensures)
     (sym (open-record (start .args .m) (q .kept) (q .len) (q .bytes) (omega (arith, some)) (omega (arith, sized start))))
@@ -42,6 +48,8 @@ pub good-used-spec : {M : Type 1} → statement M
 good-used-spec =
     tie.close
     (tie.spec
+    cast-len
+    cast-kept
     returns
     array-read-first
     is-high-requires

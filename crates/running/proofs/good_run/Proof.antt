@@ -21,9 +21,6 @@ fit-requires c κs = search needs
 good-waiting-requires : tie.Need-good-waiting-requires
 good-waiting-requires c κs = search needs
 
-cast-result-2 : tie.Need-cast-result-2
-cast-result-2 c = search needs
-
 returns : tie.Need-returns
 returns c =
     let waiting = c .before .before .before .before in
@@ -41,8 +38,7 @@ good-run-spec =
     main-period-requires
     good-list-requires
     init-timing-requires
-    cast-result
     fit-requires
     good-waiting-requires
-    cast-result-2
+    cast-result
     returns)

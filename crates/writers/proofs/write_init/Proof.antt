@@ -15,6 +15,9 @@ returns c = let a = c .before .before .before .before .args in wrote-short (init
 put-init-requires : tie.Need-put-init-requires
 put-init-requires c κs = (sym (c .before .before .before .good-init .ensures) ∙ c .before .before .if1 .taken, c .before .if2 .left)
 
+cast-t9 : tie.Need-cast-t9
+cast-t9 c = search needs
+
 same-length : tie.Need-same-length
 same-length c = search needs
 
@@ -29,4 +32,4 @@ returns-3 c = let a = c .before .before .before .args in wrote-bad (init (a .v))
 pub write-init-spec : {M : Type 1} → statement M
 write-init-spec =
     tie.close
-    (tie.spec good-init-requires returns put-init-requires same-length returns-2 returns-3)
+    (tie.spec good-init-requires returns put-init-requires cast-t9 same-length returns-2 returns-3)

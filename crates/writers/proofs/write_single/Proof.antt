@@ -15,6 +15,9 @@ returns c = let a = c .before .before .before .before .args in wrote-short (sing
 put-single-requires : tie.Need-put-single-requires
 put-single-requires c κs = (sym (c .before .before .before .good-single .ensures) ∙ c .before .before .if1 .taken, c .before .if2 .left)
 
+cast-t9 : tie.Need-cast-t9
+cast-t9 c = search needs
+
 same-length : tie.Need-same-length
 same-length c = search needs
 
@@ -29,4 +32,4 @@ returns-3 c = let a = c .before .before .before .args in wrote-bad (single (a .v
 pub write-single-spec : {M : Type 1} → statement M
 write-single-spec =
     tie.close
-    (tie.spec good-single-requires returns put-single-requires same-length returns-2 returns-3)
+    (tie.spec good-single-requires returns put-single-requires cast-t9 same-length returns-2 returns-3)

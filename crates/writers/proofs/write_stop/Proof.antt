@@ -14,6 +14,9 @@ head-of-requires c κs = search needs
 slice-write-out : tie.Need-slice-write-out
 slice-write-out c = search needs
 
+cast-t4 : tie.Need-cast-t4
+cast-t4 c = search needs
+
 same-length : tie.Need-same-length
 same-length c = search needs
 
@@ -22,4 +25,4 @@ returns-2 c = wrote-done stop (c .before .before .before .args .out .now) _ refl
 
 pub write-stop-spec : {M : Type 1} → statement M
 write-stop-spec =
-    tie.close (tie.spec returns head-of-requires slice-write-out same-length returns-2)
+    tie.close (tie.spec returns head-of-requires slice-write-out cast-t4 same-length returns-2)

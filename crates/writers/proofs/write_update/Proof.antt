@@ -34,6 +34,9 @@ mul-t5 c = search needs
 add-t6 : tie.Need-add-t6
 add-t6 c = search needs
 
+cast-t12 : tie.Need-cast-t12
+cast-t12 c = record { fits = omega (arith, counted (c .before .before .before .before .before)) }
+
 same-length : tie.Need-same-length
 same-length c = search needs
 
@@ -59,6 +62,7 @@ write-update-spec =
     put-update-requires
     mul-t5
     add-t6
+    cast-t12
     same-length
     returns-2
     returns-3)

@@ -27,7 +27,7 @@ pub struct Case {
 pub fn tables(meter: &mut Meter, kind: &Kind, cases: Vec<Case>) -> Vec<Table> {
     let mut rows = [Vec::new(), Vec::new()];
     for case in cases {
-        assert_eq!(fair::end(&case.scene, &case.calls), Some(case.answer), "{}", case.what);
+        assert_eq!(fair::end(&case.scene, &case.calls), Some(case.answer.into()), "{}", case.what);
         let Some([in_place, by_value, plain]) = times(meter, kind, &case) else { continue };
         for (rows, library) in rows.iter_mut().zip([in_place, by_value]) {
             rows.push(Row::timed(&case.what, Pair { library, plain }, kind.time));

@@ -12,7 +12,7 @@ pub fn play(scene: &Scene, calls: &Calls) -> Scene {
 }
 
 /// What the last of the calls answers. Stops at the first difference.
-pub fn end(scene: &Scene, calls: &Calls) -> Option<u8> {
+pub fn end(scene: &Scene, calls: &Calls) -> Option<u16> {
     on_all_sides(scene, calls).said.last().map(|said| said.answer)
 }
 
@@ -24,7 +24,7 @@ pub fn read_out(scene: &Scene) {
     let [first, second] = &mut outs;
     let library = calls::readout(alike::record(record), buffer, alike::part(*at), first);
     let plain = record.read_out(buffer, *at, second);
-    same("a readout of a box", record, &(library.answer, Ok(library.used)), &(0, plain));
+    same("a readout of a box", record, &(library.answer, Ok(library.used as usize)), &(0, plain));
     same_all("bytes of a readout of a box", record, &outs[0], &outs[1]);
 }
 

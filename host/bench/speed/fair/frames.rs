@@ -26,18 +26,21 @@ pub fn check() {
 fn read(frame: &[u8], count: usize) {
     let told = (frame, count);
     let codec::ReadInit { answer, ident, used, init } = codec::read_init(frame, count);
+    let used = used as u16;
     let plain = raw::ReadInit { answer, ident, used, init: alike::init(init) };
     same("a reading of an Init", &told, &calls::read_init(frame, count), &plain);
 
     let codec::ReadUpdate { answer, ident, used, settings } = codec::read_update(frame, count);
+    let used = used as u16;
     let plain = raw::ReadUpdate { answer, ident, used, settings: alike::settings(settings) };
     same("a reading of an Update", &told, &calls::read_update(frame, count), &plain);
 
     let codec::ReadStop { answer, ident, used } = codec::read_stop(frame, count);
-    let plain = raw::ReadStop { answer, ident, used };
+    let plain = raw::ReadStop { answer, ident, used: used as u16 };
     same("a reading of a Stop", &told, &calls::read_stop(frame, count), &plain);
 
     let codec::ReadSingle { answer, ident, used, single } = codec::read_single(frame, count);
+    let used = used as u16;
     let plain = raw::ReadSingle { answer, ident, used, single: alike::single(single) };
     same("a reading of a Single", &told, &calls::read_single(frame, count), &plain);
 }
@@ -57,7 +60,7 @@ fn write(rng: &mut SmallRng, command: &Command, count: usize) {
         }
     };
     let told = (command, count, room);
-    same("a writing", &told, &(library.answer, library.used), &(plain.answer, plain.used));
+    same("a writing", &told, &(library.answer, library.used.into()), &(plain.answer, plain.used));
     same_all("bytes of a writing", &told, &outs[0], &outs[1]);
 }
 

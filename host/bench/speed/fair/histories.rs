@@ -33,7 +33,7 @@ fn fresh(rng: &mut SmallRng) -> Scene {
     let profile = random::profile(rng);
     let size = if rng.gen_range(0..8) == 0 { MOST } else { rng.gen_range(16..=200) };
     let record = BoxRecord::new(profile, size).expect("a good profile and capacity");
-    let made = calls::make(alike::profile(profile), size);
+    let made = calls::make(alike::profile(profile), size as u32);
     same("a fresh box", &profile, &(made.answer, made.made), &(0, alike::record(&record)));
     let offset = rng.gen_range(0..64);
     let mut buffer = vec![0; offset + size + rng.gen_range(0..64)];

@@ -20,13 +20,13 @@ pub struct Plain;
 impl Side for Library {
     #[inline(always)]
     fn ready(buffer: &[u8], at: Part, ring: &Ring) -> Result<(), u8> {
-        told(calls::ring_ready(buffer, alike::part(at), alike::ring(*ring)))
+        told(calls::ring_ready(buffer, alike::part(at), alike::ring(*ring)).into())
     }
 
     #[inline(always)]
     fn read_out(buffer: &[u8], at: Part, ring: &Ring, out: &mut [u8]) -> Result<usize, u8> {
         let readout = calls::ring_read_out(buffer, alike::part(at), alike::ring(*ring), out);
-        told(readout.answer).map(|()| readout.used)
+        told(readout.answer).map(|()| readout.used as usize)
     }
 
     #[inline(always)]
@@ -44,7 +44,11 @@ impl Side for Library {
             }
         };
         let left = pushed.ring;
-        *ring = Ring { capacity: left.capacity, start: left.start, used: left.used };
+        *ring = Ring {
+            capacity: left.capacity as usize,
+            start: left.start as usize,
+            used: left.used as usize,
+        };
         told(pushed.answer)
     }
 }
@@ -68,9 +72,9 @@ impl Side for Plain {
 
 /// The library's answer as the plain side tells it.
 #[inline(always)]
-fn told(answer: u8) -> Result<(), u8> {
+fn told(answer: u32) -> Result<(), u8> {
     match answer {
         0 => Ok(()),
-        refusal => Err(refusal),
+        refusal => Err(refusal as u8),
     }
 }

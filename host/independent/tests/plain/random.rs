@@ -71,7 +71,7 @@ pub fn profile(rng: &mut SmallRng) -> Profile {
         currents: std::array::from_fn(|_| edge_or(rng, &[least, 126, 127], least..=127) as u8),
         widths: std::array::from_fn(|_| edge_or(rng, &[499, 500], 4 * least..=500) as u16),
         charge: edge_or(rng, &[63_499, 63_500], 400 * least..=63_500),
-        shortest: edge_or(rng, &[30, 10_235], 30..=200) as u16,
+        shortest: edge_or(rng, &[30, 10_235], 30..=200),
         watchdog: edge_or(rng, &[1, 600_000], 100..=3_000),
     }
 }
@@ -89,7 +89,7 @@ pub fn nowhere_looser(rng: &mut SmallRng, than: &Profile) -> Profile {
         currents: than.currents.map(|current| less(0, current.into()) as u8),
         widths: than.widths.map(|width| less(0, width.into()) as u16),
         charge: less(0, than.charge),
-        shortest: 10_235 - less(0, 10_235 - u32::from(than.shortest)) as u16,
+        shortest: 10_235 - less(0, 10_235 - than.shortest),
         watchdog: less(1, than.watchdog),
     }
 }

@@ -89,7 +89,7 @@ impl<K: FnMut(Call, Answer, &[u8], &mut Memory)> Unit for InMemory<K> {
     }
 
     fn call(&mut self, call: Call) -> Told {
-        let before = self.guard.record().ring.used;
+        let before = self.guard.record().ring.used as usize;
         let told = self.guard.call(call);
         let trace = self.guard.trace().expect("its own ring is ready");
         (self.keep)(call, told.answer, &trace[before..], &mut self.memory);
@@ -118,13 +118,13 @@ pub fn teach(out: Out) -> Result<Drawn, Failure> {
         written += record.len();
     });
     // The same calls, on a proved box that is lent this memory.
-    let mut lent = calls::make(Profile::LOOSEST, RING.size).made;
+    let mut lent = calls::make(Profile::LOOSEST, RING.size as u32).made;
     let mut proved = InMemory::new(|call, answer: Answer, _: &[u8], memory: &mut Memory| {
         let said = match call {
             Call::Byte(byte) => calls::byte_in_place(&mut lent, memory, RING, byte),
             Call::Tick => calls::tick_in_place(&mut lent, memory, RING),
         };
-        assert_eq!(said.answer, answer.number(), "the ring's size changes no answer");
+        assert_eq!(said.answer, answer.number().into(), "the ring's size changes no answer");
     });
     let mut courses = Courses::of(2);
     let units: &mut [&mut dyn Unit] = &mut [&mut wrong, &mut proved];

@@ -63,7 +63,7 @@ pub fn of(bytes: &[u8]) -> Result<Vec<Record>, NotRecords> {
     }
     let mut part = bytes.to_vec();
     part.resize(bytes.len().max(LEAST), 0);
-    let ring = Ring { capacity: part.len(), start: 0, used: bytes.len() };
+    let ring = Ring { capacity: part.len() as u32, start: 0, used: bytes.len() as u32 };
     let answer = ring_ready(&part, Part { offset: 0, size: part.len() }, ring);
     if answer == Answer::Done.number() {
         Ok(split(bytes).expect("the library says that they are records"))

@@ -6,7 +6,7 @@ use soak::sessions::{self, Session};
 use yarrowbell::Profile;
 
 /// The number of the tripped state.
-const TRIPPED: u8 = 2;
+const TRIPPED: u16 = 2;
 
 /// The session file, with the bytes of one clock in one line or each in its own.
 pub fn text(session: &Session, together: bool) -> String {

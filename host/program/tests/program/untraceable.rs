@@ -88,7 +88,7 @@ fn any_bytes() {
         let length = bytes.len();
         let words: String = bytes.iter().map(|byte| format!("{byte:02X}")).collect();
         bytes.resize(32, 0);
-        let ring = Ring { capacity: 32, start: 0, used: length };
+        let ring = Ring { capacity: 32, start: 0, used: length as u32 };
         let ready = ring_ready(&bytes, Part { offset: 0, size: 32 }, ring) == 0;
         let ran = run::words(&["trace", &words]);
         assert_eq!((ran.status, ran.out.is_empty()), if ready { (0, false) } else { (2, true) });

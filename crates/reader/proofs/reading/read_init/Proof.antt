@@ -26,6 +26,9 @@ check-init-requires c κs = search needs
 good-init-requires : tie.Need-good-init-requires
 good-init-requires c κs = search needs
 
+cast-judged : tie.Need-cast-judged
+cast-judged c = search needs
+
 judged-requires : tie.Need-judged-requires
 judged-requires c κs = search needs
 
@@ -48,5 +51,6 @@ read-init-spec =
     take-field-requires
     check-init-requires
     good-init-requires
+    cast-judged
     judged-requires
     returns)

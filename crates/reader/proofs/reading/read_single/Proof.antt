@@ -25,6 +25,9 @@ nothing-requires c κs = search needs
 good-single-requires : tie.Need-good-single-requires
 good-single-requires c κs = search needs
 
+cast-judged : tie.Need-cast-judged
+cast-judged c = search needs
+
 judged-requires : tie.Need-judged-requires
 judged-requires c κs = search needs
 
@@ -46,5 +49,6 @@ read-single-spec =
     check-single-requires
     nothing-requires
     good-single-requires
+    cast-judged
     judged-requires
     returns)

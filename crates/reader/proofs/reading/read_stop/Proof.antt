@@ -14,6 +14,9 @@ nothing-requires c κs = search needs
 check-of-requires : tie.Need-check-of-requires
 check-of-requires c κs = search needs
 
+cast-judged : tie.Need-cast-judged
+cast-judged c = search needs
+
 judged-requires : tie.Need-judged-requires
 judged-requires c κs = search needs
 
@@ -24,4 +27,4 @@ returns c =
     (ap (λ (f : Fields). record { ident = 2; init = f .init; entries = f .entries; single = f .single }) (c .before .before .nothing .ensures))
 
 pub read-stop-spec : {M : Type 1} → statement M
-read-stop-spec = tie.close (tie.spec nothing-requires check-of-requires judged-requires returns)
+read-stop-spec = tie.close (tie.spec nothing-requires check-of-requires cast-judged judged-requires returns)

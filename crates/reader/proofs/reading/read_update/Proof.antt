@@ -25,11 +25,14 @@ good-update-requires c κs = search needs
 nothing-requires : tie.Need-nothing-requires
 nothing-requires c κs = search needs
 
-mul-judged : tie.Need-mul-judged
-mul-judged c = search needs
+mul-used : tie.Need-mul-used
+mul-used c = search needs
 
-add-judged : tie.Need-add-judged
-add-judged c = search needs
+add-used : tie.Need-add-used
+add-used c = search needs
+
+cast-judged : tie.Need-cast-judged
+cast-judged c = search needs
 
 judged-requires : tie.Need-judged-requires
 judged-requires c κs = search needs
@@ -53,7 +56,8 @@ read-update-spec =
     check-update-requires
     good-update-requires
     nothing-requires
-    mul-judged
-    add-judged
+    mul-used
+    add-used
+    cast-judged
     judged-requires
     returns)

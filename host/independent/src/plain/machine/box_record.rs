@@ -13,7 +13,7 @@ pub struct BoxRecord {
     pub hold_a: u8,
     pub hold_b: u8,
     /// 0 idle, 1 running, 2 tripped.
-    pub state: u8,
+    pub state: u16,
     pub run: Run,
     pub partial: PartialFrame,
     pub ring: Ring,

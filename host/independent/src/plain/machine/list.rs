@@ -52,5 +52,5 @@ pub(super) fn keeps_second_rule(list: &Init, largest_mode: u8) -> bool {
 /// "Init is over a limit if t1 is below the shortest."
 #[inline(always)]
 pub(super) fn over(list: &Init, profile: &Profile) -> bool {
-    t1(list) < u32::from(profile.shortest)
+    t1(list) < profile.shortest
 }

@@ -24,9 +24,9 @@ pub use run::Run;
 pub use said::{Pulse, Said};
 
 /// "States: idle, running, tripped."
-const IDLE: u8 = 0;
-const RUNNING: u8 = 1;
-const TRIPPED: u8 = 2;
+const IDLE: u16 = 0;
+const RUNNING: u16 = 1;
+const TRIPPED: u16 = 2;
 
 /// The hold of a module after Init, Stop and Single, in tenths.
 const HOLD: u8 = 15;

@@ -25,7 +25,7 @@ impl PartialFrame {
     /// "The partial frame is empty, length 0, or a high byte followed by low ones, shorter than its
     /// kept length."
     #[inline(always)]
-    pub(super) fn good(&self, state: u8, run: &Run) -> bool {
+    pub(super) fn good(&self, state: u16, run: &Run) -> bool {
         let first = self.bytes[0];
         let clear = &CLEAR[self.len.min(24)];
         let stray =
@@ -59,7 +59,7 @@ const CLEAR: [[u8; 24]; 25] = {
 /// "That length is the frame's own; for Update it is the running list's, or 4 to 25 in steps of 3
 /// when tripped, and no Update is open when idle." A Stop ends with its first byte.
 #[inline(always)]
-fn own(ident: u8, kept: usize, state: u8, run: &Run) -> bool {
+fn own(ident: u8, kept: usize, state: u16, run: &Run) -> bool {
     match (ident, state) {
         (codec::INIT, _) => kept == codec::init::LENGTH,
         (codec::SINGLE, _) => kept == codec::single::LENGTH,

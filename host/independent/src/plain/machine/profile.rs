@@ -6,7 +6,7 @@ pub struct Profile {
     pub currents: [u8; 8],
     pub widths: [u16; 8],
     pub charge: u32,
-    pub shortest: u16,
+    pub shortest: u32,
     pub watchdog: u32,
 }
 

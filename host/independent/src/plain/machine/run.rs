@@ -10,7 +10,7 @@ pub struct Run {
     pub list: Init,
     pub settings: [Setting; 8],
     /// 1 while an Update waits.
-    pub waits: u8,
+    pub waits: u32,
     pub waiting: [Setting; 8],
     pub position: u16,
     pub cycle: u32,
@@ -22,7 +22,7 @@ impl Run {
     #[inline(always)]
     pub(super) fn zero(&self) -> bool {
         let Init { n_factor, channel_stim, channel_lf, group_time, main_time } = self.list;
-        let list = u32::from(n_factor | channel_stim | channel_lf | group_time | self.waits);
+        let list = u32::from(n_factor | channel_stim | channel_lf | group_time) | self.waits;
         let numbers = u32::from(main_time | self.position) | self.cycle | self.watch;
         list | numbers | any(&self.settings) | any(&self.waiting) == 0
     }
