@@ -97,37 +97,37 @@ pub struct Called {
 extern "C" {
     pub(crate) fn yarrowbell_make(profile: Profile, capacity: u32) -> Made;
     pub(crate) fn yarrowbell_byte(
-        record: BoxRecord,
-        buffer: *mut u8,
-        length: usize,
+        b: BoxRecord,
+        buf: *mut u8,
+        buf_length: usize,
         at: Part,
         n: u8,
     ) -> Called;
     pub(crate) fn yarrowbell_tick(
-        record: BoxRecord,
-        buffer: *mut u8,
-        length: usize,
+        b: BoxRecord,
+        buf: *mut u8,
+        buf_length: usize,
         at: Part,
     ) -> Called;
     pub(crate) fn yarrowbell_byte_in_place(
-        record: *mut BoxRecord,
-        buffer: *mut u8,
-        length: usize,
+        b: *mut BoxRecord,
+        buf: *mut u8,
+        buf_length: usize,
         at: Part,
         n: u8,
     ) -> Said;
     pub(crate) fn yarrowbell_tick_in_place(
-        record: *mut BoxRecord,
-        buffer: *mut u8,
-        length: usize,
+        b: *mut BoxRecord,
+        buf: *mut u8,
+        buf_length: usize,
         at: Part,
     ) -> Said;
     pub(crate) fn yarrowbell_readout(
-        record: BoxRecord,
-        buffer: *const u8,
-        length: usize,
+        b: BoxRecord,
+        buf: *const u8,
+        buf_length: usize,
         at: Part,
         out: *mut u8,
-        room: usize,
+        out_length: usize,
     ) -> Readout;
 }

@@ -85,26 +85,20 @@ pub struct ReadSingle {
 }
 
 extern "C" {
-    pub(crate) fn yarrowbell_read_init(frame: *const u8, length: usize, count: usize) -> ReadInit;
-    pub(crate) fn yarrowbell_read_update(
-        frame: *const u8,
-        length: usize,
-        count: usize,
-    ) -> ReadUpdate;
-    pub(crate) fn yarrowbell_read_stop(frame: *const u8, length: usize, count: usize) -> ReadStop;
-    pub(crate) fn yarrowbell_read_single(
-        frame: *const u8,
-        length: usize,
-        count: usize,
-    ) -> ReadSingle;
-    pub(crate) fn yarrowbell_write_init(init: Init, out: *mut u8, length: usize) -> Wrote;
+    pub(crate) fn yarrowbell_read_init(s: *const u8, s_length: usize, count: usize) -> ReadInit;
+    pub(crate) fn yarrowbell_read_update(s: *const u8, s_length: usize, count: usize)
+        -> ReadUpdate;
+    pub(crate) fn yarrowbell_read_stop(s: *const u8, s_length: usize, count: usize) -> ReadStop;
+    pub(crate) fn yarrowbell_read_single(s: *const u8, s_length: usize, count: usize)
+        -> ReadSingle;
+    pub(crate) fn yarrowbell_write_init(v: Init, out: *mut u8, out_length: usize) -> Wrote;
     pub(crate) fn yarrowbell_write_update(
         settings: Settings,
         count: usize,
         out: *mut u8,
-        length: usize,
+        out_length: usize,
     ) -> Wrote;
-    pub(crate) fn yarrowbell_write_stop(out: *mut u8, length: usize) -> Wrote;
-    pub(crate) fn yarrowbell_write_single(single: Single, out: *mut u8, length: usize) -> Wrote;
+    pub(crate) fn yarrowbell_write_stop(out: *mut u8, out_length: usize) -> Wrote;
+    pub(crate) fn yarrowbell_write_single(v: Single, out: *mut u8, out_length: usize) -> Wrote;
     pub(crate) fn yarrowbell_reply(ident: u8, answer: u8) -> u8;
 }

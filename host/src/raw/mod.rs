@@ -1,12 +1,13 @@
 //! The exports of the libraries as the C ABI of x86-64 Linux has them.
 //!
-//! Nothing compares these declarations with the library's source. Both sides rely on this:
+//! Names, fields, parameters and results are those of the library's source, which
+//! `tests/declarations` compares. Both sides rely on this:
 //!
 //! - a struct has its fields in the order written, each at the next multiple of its own size (of
 //!   its greatest number's, for a struct or an array), and is padded at its end to a multiple of
 //!   its greatest number's size; `usize` has 8 bytes;
 //! - structs are passed and returned by value, but for a box changed in place, which is a pointer;
-//! - a byte slice is passed as a pointer and then its length, as two parameters;
+//! - a byte slice `s` is passed as a pointer `s` and then its length `s_length`, as two parameters;
 //! - a call neither keeps a pointer nor goes past its length, and is given to itself what it may
 //!   write.
 //!

@@ -36,14 +36,14 @@ pub struct Readout {
 
 extern "C" {
     pub(crate) fn yarrowbell_ring_ready(
-        buffer: *const u8,
-        length: usize,
+        buf: *const u8,
+        buf_length: usize,
         at: Part,
         ring: Ring,
     ) -> u8;
     pub(crate) fn yarrowbell_ring_push_answer(
-        buffer: *mut u8,
-        length: usize,
+        buf: *mut u8,
+        buf_length: usize,
         at: Part,
         ring: Ring,
         clock: u32,
@@ -51,8 +51,8 @@ extern "C" {
         answer: u8,
     ) -> Pushed;
     pub(crate) fn yarrowbell_ring_push_pulse(
-        buffer: *mut u8,
-        length: usize,
+        buf: *mut u8,
+        buf_length: usize,
         at: Part,
         ring: Ring,
         clock: u32,
@@ -61,19 +61,19 @@ extern "C" {
         current: u8,
     ) -> Pushed;
     pub(crate) fn yarrowbell_ring_push_trip(
-        buffer: *mut u8,
-        length: usize,
+        buf: *mut u8,
+        buf_length: usize,
         at: Part,
         ring: Ring,
         clock: u32,
         cause: u8,
     ) -> Pushed;
     pub(crate) fn yarrowbell_ring_read_out(
-        buffer: *const u8,
-        length: usize,
+        buf: *const u8,
+        buf_length: usize,
         at: Part,
         ring: Ring,
         out: *mut u8,
-        room: usize,
+        out_length: usize,
     ) -> Readout;
 }

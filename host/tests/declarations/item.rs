@@ -1,0 +1,82 @@
+//! What crosses the boundary: functions and structs.
+
+use crate::types;
+use std::collections::BTreeMap;
+use std::fmt;
+use syn::{Field, FnArg, ItemStruct, Pat, ReturnType, Signature};
+
+/// The items of one side by what they are and their names, as `struct Init`.
+pub type Items = BTreeMap<String, Item>;
+
+/// The file that an item stands in, and what it has in each place, as Rust declares it.
+pub struct Item {
+    pub file: String,
+    pub parts: BTreeMap<Place, String>,
+}
+
+/// A place of an item. Fields and parameters are counted from 1.
+#[derive(PartialEq, Eq, PartialOrd, Ord)]
+pub enum Place {
+    Field(usize),
+    Parameter(usize),
+    Result,
+}
+
+impl fmt::Display for Place {
+    fn fmt(&self, out: &mut fmt::Formatter) -> fmt::Result {
+        match self {
+            Place::Field(number) => write!(out, "field {number}"),
+            Place::Parameter(number) => write!(out, "parameter {number}"),
+            Place::Result => out.write_str("result"),
+        }
+    }
+}
+
+/// No name may stand for two items.
+pub fn gathered(items: impl IntoIterator<Item = (String, Item)>) -> Items {
+    let mut all = Items::new();
+    for (name, item) in items {
+        let file = item.file.clone();
+        if let Some(other) = all.insert(name.clone(), item) {
+            panic!("{name} stands in {} and in {file}", other.file);
+        }
+    }
+    all
+}
+
+pub fn of_struct(file: &str, item: &ItemStruct) -> (String, Item) {
+    of(file, format!("struct {}", types::named(&item.ident)), fields(item))
+}
+
+pub fn of_function(file: &str, item: &Signature) -> (String, Item) {
+    of(file, format!("fn {}", item.ident), parameters_and_result(item))
+}
+
+fn of(file: &str, name: String, parts: Option<BTreeMap<Place, String>>) -> (String, Item) {
+    match parts {
+        Some(parts) => (name, Item { file: file.to_owned(), parts }),
+        None => panic!("{file}: {name} has a part that cannot cross the boundary"),
+    }
+}
+
+fn fields(item: &ItemStruct) -> Option<BTreeMap<Place, String>> {
+    let field = |(number, field): (usize, &Field)| {
+        let part = format!("{}: {}", field.ident.as_ref()?, types::spelt(&field.ty)?);
+        Some((Place::Field(number), part))
+    };
+    (1..).zip(&item.fields).map(field).collect()
+}
+
+fn parameters_and_result(item: &Signature) -> Option<BTreeMap<Place, String>> {
+    let mut parameters = Vec::new();
+    for parameter in &item.inputs {
+        let FnArg::Typed(parameter) = parameter else { return None };
+        let Pat::Ident(name) = &*parameter.pat else { return None };
+        parameters.extend(types::parameters(&name.ident, &parameter.ty)?);
+    }
+    let mut parts: BTreeMap<_, _> = (1..).map(Place::Parameter).zip(parameters).collect();
+    if let ReturnType::Type(_, result) = &item.output {
+        parts.insert(Place::Result, types::spelt(result)?);
+    }
+    Some(parts)
+}
