@@ -2,77 +2,64 @@
 
 use thiserror::Error;
 
-/// An answer of document 01, "Numbers the box answers", in the order of its number.
-#[derive(Clone, Copy, Debug, Error, PartialEq, Eq)]
-#[repr(u8)]
-pub enum Answer {
-    #[error("command carried out, or tick taken")]
-    Done,
-    #[error("byte taken, frame unfinished")]
-    Unfinished,
-    #[error("low byte, no frame open")]
-    LowByte,
-    #[error("wrong check")]
-    WrongCheck,
-    #[error("value not good")]
-    NotGood,
-    #[error("timing rule broken")]
-    Timing,
-    #[error("Update, no list")]
-    NoList,
-    #[error("Single while a list runs")]
-    ListRuns,
-    #[error("Single during a hold")]
-    Hold,
-    #[error("over a limit")]
-    OverLimit,
-    #[error("Update or Single while tripped")]
-    Tripped,
-    #[error("profile not good")]
-    ProfileNotGood,
-    #[error("box record not good")]
-    BoxNotGood,
-    #[error("ring part outside the lent buffer, or its size not the box's capacity")]
-    RingOutside,
-    #[error("used ring bytes do not split into whole known records")]
-    RingUnknown,
-    #[error("clock at its end")]
-    ClockAtEnd,
-    #[error("output too short")]
-    OutputTooShort,
-    #[error("frame cut: a high byte before the frame's end")]
-    Cut,
+/// Makes the answers of a table: number, name, words.
+macro_rules! answers {
+    ($($number:literal $name:ident $words:literal)*) => {
+        /// An answer of document 01, "Numbers the box answers".
+        #[derive(Clone, Copy, Debug, Error, PartialEq, Eq)]
+        #[repr(u8)]
+        pub enum Answer {
+            $(#[error($words)] $name = $number,)*
+        }
+
+        impl Answer {
+            /// Every answer, in the order of the numbers.
+            pub const ALL: [Answer; [$($number),*].len()] = [$(Answer::$name),*];
+
+            pub fn from_number(number: u8) -> Option<Answer> {
+                match number {
+                    $($number => Some(Answer::$name),)*
+                    _ => None,
+                }
+            }
+        }
+    };
+}
+
+answers! {
+    0 Done "command carried out, or tick taken"
+    1 Unfinished "byte taken, frame unfinished"
+    2 LowByte "low byte, no frame open"
+    3 WrongCheck "wrong check"
+    4 NotGood "value not good"
+    5 Timing "timing rule broken"
+    6 NoList "Update, no list"
+    7 ListRuns "Single while a list runs"
+    8 Hold "Single during a hold"
+    9 OverLimit "over a limit"
+    10 Tripped "Update or Single while tripped"
+    11 ProfileNotGood "profile not good"
+    12 BoxNotGood "box record not good"
+    13 RingOutside "ring part outside the lent buffer, or its size not the box's capacity"
+    14 RingUnknown "used ring bytes do not split into whole known records"
+    15 ClockAtEnd "clock at its end"
+    16 OutputTooShort "output too short"
+    17 Cut "frame cut: a high byte before the frame's end"
 }
 
 impl Answer {
-    /// Every answer, each at its number.
-    pub const ALL: [Answer; 18] = [
-        Answer::Done,
-        Answer::Unfinished,
-        Answer::LowByte,
-        Answer::WrongCheck,
-        Answer::NotGood,
-        Answer::Timing,
-        Answer::NoList,
-        Answer::ListRuns,
-        Answer::Hold,
-        Answer::OverLimit,
-        Answer::Tripped,
-        Answer::ProfileNotGood,
-        Answer::BoxNotGood,
-        Answer::RingOutside,
-        Answer::RingUnknown,
-        Answer::ClockAtEnd,
-        Answer::OutputTooShort,
-        Answer::Cut,
-    ];
-
-    pub fn from_number(number: u8) -> Option<Answer> {
-        Answer::ALL.get(usize::from(number)).copied()
-    }
-
     pub fn number(self) -> u8 {
         self as u8
+    }
+
+    /// Whether a byte that is given it has decided a command: 0, 3 to 10.
+    pub fn decides(self) -> bool {
+        !self.refuses() && !matches!(self, Answer::Unfinished | Answer::LowByte)
+    }
+
+    /// Whether a call that is given it has changed nothing: 11 to 17.
+    pub fn refuses(self) -> bool {
+        self.number() >= Answer::ProfileNotGood.number()
     }
 
     /// The answer that the library gave by its number, in whatever width.

@@ -85,10 +85,10 @@ impl Guard {
     /// The answer, if the box took the call.
     fn taken(&self, said: Said) -> Result<Answer, Refusal> {
         let answer = Answer::known(said.answer);
-        if answer.number() < Answer::ProfileNotGood.number() {
-            Ok(answer)
-        } else {
+        if answer.refuses() {
             Err(self.refusal(answer))
+        } else {
+            Ok(answer)
         }
     }
 

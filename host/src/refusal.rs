@@ -5,7 +5,7 @@ use crate::Answer;
 use std::fmt;
 use thiserror::Error;
 
-/// An answer from 11 on: the call changed nothing.
+/// An answer that refuses: the call changed nothing.
 #[derive(Clone, Debug, Error, PartialEq, Eq)]
 #[error("answer {}: {about}: {answer}", .answer.number())]
 pub struct Refusal {

@@ -14,10 +14,8 @@ pub struct Told {
 }
 
 impl Told {
-    /// A byte decides a command unless its frame is unfinished or it is a stray.
     pub(crate) fn of_byte(answer: Answer, said: Said) -> Told {
-        let decided = !matches!(answer, Answer::Unfinished | Answer::LowByte);
-        let reply = decided.then(|| said.reply.try_into().expect("a reply is one byte"));
+        let reply = answer.decides().then(|| said.reply.try_into().expect("a reply is one byte"));
         Told { reply, ..Told::of_tick(answer, said) }
     }
 

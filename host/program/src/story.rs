@@ -7,6 +7,7 @@ use crate::progress::Progress;
 use crate::session::Session;
 use crate::unit::Unit;
 use crate::{hex, words};
+use yarrowbell::Answer;
 
 /// How wide a column is at least, without the space behind it.
 const COLUMN: usize = 42;
@@ -132,7 +133,9 @@ fn event(event: &Event) -> String {
         What::Decided { answer, reply, .. } => {
             format!("{}, reply {}", words::answer(*answer), hex::spelt(&[*reply]))
         }
-        What::Stray(byte) => format!("stray byte {}, answer 2", hex::spelt(&[*byte])),
+        What::Stray(byte) => {
+            format!("stray byte {}, answer {}", hex::spelt(&[*byte]), Answer::LowByte.number())
+        }
         What::Dropped(bytes) => format!("dropped unfinished: {}", hex::spelt(bytes)),
         What::Pulse(pulse) => told_pulse(pulse),
         What::Trip(cause) => format!("TRIP, cause: {cause}"),

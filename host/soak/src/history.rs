@@ -2,13 +2,14 @@
 
 use crate::failure::{Failure, Named};
 use crate::lent::{lay, lent};
-use crate::met::Met;
+use crate::met::{answered, Met};
 use crate::pick::{any, once_in, weighted};
 use crate::three::{self, Call, Three};
 use crate::{act, damage, jump, profiles};
 use rand::rngs::SmallRng;
 use rand::{Rng, SeedableRng};
 use yarrowbell::raw::{BoxRecord, Part, Said};
+use yarrowbell::Answer;
 
 const TRIAL: &str = "history";
 
@@ -83,7 +84,7 @@ impl History<'_> {
 
     fn ticks(&mut self, three: &mut Three) -> Result<(), String> {
         for _ in 0..act::ticks(&mut self.rng, three.record()) {
-            if self.call(three, Call::Tick)?.answer == 15 {
+            if answered(&self.call(three, Call::Tick)?) == Answer::ClockAtEnd {
                 break;
             }
         }
@@ -135,7 +136,7 @@ impl History<'_> {
         let before = Three::new(record, &buffer, at);
         let mut after = before.clone();
         let said = after.call(rng, call)?;
-        if said.answer > 10 {
+        if answered(&said).refuses() {
             after.unchanged(&before)?;
         }
         self.met.call(call, before.record(), &said, after.record());

@@ -3,12 +3,15 @@
 use crate::three::Call;
 use std::collections::BTreeMap;
 use yarrowbell::raw::{BoxRecord, Said};
+use yarrowbell::Answer;
 
 const RUNNING: u16 = 1;
 const TRIPPED: u16 = 2;
 
 const COMMANDS: [&str; 4] = ["Init", "Update", "Stop", "Single"];
 const STATES: [&str; 3] = ["idle", "running", "tripped"];
+
+const ANSWERS: usize = Answer::ALL.len();
 
 /// The answers that each call on a box can be given.
 const TO_MAKE: &[u8] = &[0, 11, 13];
@@ -24,11 +27,11 @@ const TO_COMMANDS: [&[u8]; 4] =
 #[derive(Clone, Debug, Default)]
 pub struct Met {
     pub calls: u64,
-    made: [u64; 18],
-    bytes: [u64; 18],
-    ticks: [u64; 18],
-    readouts: [u64; 18],
-    commands: [[u64; 18]; 4],
+    made: [u64; ANSWERS],
+    bytes: [u64; ANSWERS],
+    ticks: [u64; ANSWERS],
+    readouts: [u64; ANSWERS],
+    commands: [[u64; ANSWERS]; 4],
     lists: [u64; 9],
     updates: [u64; 9],
     states: [u64; 3],
@@ -67,7 +70,7 @@ impl Met {
     pub fn call(&mut self, call: Call, before: &BoxRecord, said: &Said, after: &BoxRecord) {
         self.calls += 1;
         let answer = usize::from(said.answer);
-        if said.answer < 11 {
+        if !answered(said).refuses() {
             self.states[usize::from(after.core.state)] += 1;
             self.ring(before, after);
         }
@@ -94,8 +97,9 @@ impl Met {
 
     fn byte(&mut self, n: u8, before: &BoxRecord, said: &Said, after: &BoxRecord) {
         let high = n >= 0x80;
-        self.dropped_frames += u64::from(high && before.partial.len > 0 && said.answer < 11);
-        if said.answer > 10 || said.answer == 1 || said.answer == 2 {
+        let answer = answered(said);
+        self.dropped_frames += u64::from(high && before.partial.len > 0 && !answer.refuses());
+        if !answer.decides() {
             return;
         }
         let first = if high { n } else { before.partial.bytes[0] };
@@ -212,7 +216,12 @@ impl Met {
     }
 }
 
-fn told(what: &str, answers: &[u8], counts: &[u64; 18]) -> Vec<(String, u64)> {
+/// The answer by its name.
+pub(crate) fn answered(said: &Said) -> Answer {
+    Answer::from_number(said.answer).expect("all boxes answer by the numbers of document 01")
+}
+
+fn told(what: &str, answers: &[u8], counts: &[u64; ANSWERS]) -> Vec<(String, u64)> {
     let line = |&answer: &u8| (format!("{what} {answer}"), counts[usize::from(answer)]);
     answers.iter().map(line).collect()
 }

@@ -84,7 +84,7 @@ fn compared(rattle: &str, rust: &str) -> Vec<String> {
     differences(&exported, &gathered(rust::items("raw.rs", rust)))
 }
 
-fn changed(text: &str, from: &str, to: &str) -> String {
+pub fn changed(text: &str, from: &str, to: &str) -> String {
     assert_eq!(text.matches(from).count(), 1, "{from}");
     text.replace(from, to)
 }

@@ -1,9 +1,9 @@
-//! What crosses the boundary: functions and structs.
+//! What crosses the boundary: functions, structs and constants.
 
 use crate::types;
 use std::collections::BTreeMap;
 use std::fmt;
-use syn::{Field, FnArg, ItemStruct, Pat, ReturnType, Signature};
+use syn::{Field, FnArg, ItemConst, ItemStruct, Pat, ReturnType, Signature};
 
 /// The items of one side by what they are and their names, as `struct Init`.
 pub type Items = BTreeMap<String, Item>;
@@ -20,6 +20,7 @@ pub enum Place {
     Field(usize),
     Parameter(usize),
     Result,
+    Value,
 }
 
 impl fmt::Display for Place {
@@ -28,6 +29,7 @@ impl fmt::Display for Place {
             Place::Field(number) => write!(out, "field {number}"),
             Place::Parameter(number) => write!(out, "parameter {number}"),
             Place::Result => out.write_str("result"),
+            Place::Value => out.write_str("value"),
         }
     }
 }
@@ -50,6 +52,11 @@ pub fn of_struct(file: &str, item: &ItemStruct) -> (String, Item) {
 
 pub fn of_function(file: &str, item: &Signature) -> (String, Item) {
     of(file, format!("fn {}", item.ident), parameters_and_result(item))
+}
+
+pub fn of_constant(file: &str, item: &ItemConst) -> (String, Item) {
+    let value = types::number(&item.expr).map(|value| (Place::Value, value.to_owned()));
+    of(file, format!("const {}", item.ident), value.map(|value| BTreeMap::from([value])))
 }
 
 fn of(file: &str, name: String, parts: Option<BTreeMap<Place, String>>) -> (String, Item) {

@@ -1,5 +1,5 @@
-//! What `host/src/raw` declares is what the libraries export: the sources of both are read and
-//! compared, item by item.
+//! What `host/src/raw` declares is what the libraries export, and `Answer` has their answers: the
+//! sources are read and compared, item by item.
 
 mod differences;
 mod item;
@@ -9,4 +9,5 @@ mod sources;
 mod types;
 
 mod altered;
+mod answers;
 mod exports;

@@ -30,7 +30,7 @@ pub fn parameters(name: &Ident, kind: &Type) -> Option<Vec<String>> {
 pub fn spelt(kind: &Type) -> Option<String> {
     match kind {
         Type::Path(path) => path.path.get_ident().map(named),
-        Type::Array(array) => Some(format!("[{}; {}]", spelt(&array.elem)?, length(&array.len)?)),
+        Type::Array(array) => Some(format!("[{}; {}]", spelt(&array.elem)?, number(&array.len)?)),
         Type::Ptr(to) => pointer(to.mutability.is_some(), &to.elem),
         _ => None,
     }
@@ -40,9 +40,10 @@ fn pointer(to_write: bool, to: &Type) -> Option<String> {
     Some(format!("*{} {}", if to_write { "mut" } else { "const" }, spelt(to)?))
 }
 
-fn length(length: &Expr) -> Option<&str> {
-    match length {
-        Expr::Lit(ExprLit { lit: Lit::Int(number), .. }) => Some(number.base10_digits()),
+/// A number that is written out.
+pub fn number(number: &Expr) -> Option<&str> {
+    match number {
+        Expr::Lit(ExprLit { lit: Lit::Int(digits), .. }) => Some(digits.base10_digits()),
         _ => None,
     }
 }

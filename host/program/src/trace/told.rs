@@ -45,9 +45,9 @@ fn told_ident(ident: u8) -> String {
 }
 
 fn told_answer(answer: u8) -> String {
-    match Answer::from_number(answer) {
-        Some(known) if matches!(answer, 0 | 3..=10) => words::answer(known),
-        _ => ranged(format!("answer {answer}"), Some("an answer is 0 or 3 to 10")),
+    match Answer::from_number(answer).filter(|known| known.decides()) {
+        Some(known) => words::answer(known),
+        None => ranged(format!("answer {answer}"), Some("an answer is 0 or 3 to 10")),
     }
 }
 
