@@ -3,15 +3,12 @@
 //! Names, fields, parameters and results are those of the library's source, which
 //! `tests/declarations` compares. Both sides rely on this:
 //!
-//! - a struct has its fields in the order written, each at the next multiple of its own size (of
-//!   its greatest number's, for a struct or an array), and is padded at its end to a multiple of
-//!   its greatest number's size; `usize` has 8 bytes;
+//! - a struct has its fields in the order written, each right behind the one before it, and ends
+//!   with the last: every byte is a field's; `usize` has 8 bytes;
 //! - structs are passed and returned by value, but for a box changed in place, which is a pointer;
 //! - a byte slice `s` is passed as a pointer `s` and then its length `s_length`, as two parameters;
 //! - a call neither keeps a pointer nor goes past its length, and is given to itself what it may
 //!   write.
-//!
-//! The sizes and offsets that follow are pinned in the tests.
 
 mod boxes;
 mod frames;

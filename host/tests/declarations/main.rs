@@ -1,5 +1,5 @@
 //! What `host/src/raw` declares is what the libraries export, and `Answer` has their answers: the
-//! sources are read and compared, item by item.
+//! sources are read and compared, item by item. No struct among them has a gap.
 
 mod differences;
 mod item;
@@ -11,3 +11,4 @@ mod types;
 mod altered;
 mod answers;
 mod exports;
+mod gaps;

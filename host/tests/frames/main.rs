@@ -11,7 +11,6 @@ mod counts;
 mod damage;
 mod init;
 mod kinds;
-mod layouts;
 mod outputs;
 mod papers;
 mod replies;

@@ -2,7 +2,6 @@
 //! uses.
 
 mod bytes;
-mod layouts;
 mod papers;
 mod places;
 mod profiles;

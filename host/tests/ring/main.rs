@@ -11,7 +11,6 @@ mod seeded;
 mod damage;
 mod histories;
 mod kinds;
-mod layouts;
 mod neighbours;
 mod numbers;
 mod order;

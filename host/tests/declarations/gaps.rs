@@ -1,0 +1,126 @@
+//! Every byte of a struct that crosses the boundary is a field's byte.
+
+use crate::{rust, sources};
+use std::collections::BTreeSet;
+use std::mem::{offset_of, size_of, size_of_val};
+use yarrowbell::raw::*;
+
+/// A struct as the compiler lays it out.
+struct Layout {
+    name: &'static str,
+    size: usize,
+    fields: Vec<Laid>,
+}
+
+struct Laid {
+    field: &'static str,
+    offset: usize,
+    size: usize,
+}
+
+/// The layouts of structs. All fields are to be named: the pattern asks for them.
+macro_rules! layouts {
+    ($($name:ident { $($field:ident),* })*) => {
+        vec![$({
+            let $name { $($field),* } = $name::default();
+            let fields = vec![$(Laid {
+                field: stringify!($field),
+                offset: offset_of!($name, $field),
+                size: size_of_val(&$field),
+            }),*];
+            Layout { name: stringify!($name), size: size_of::<$name>(), fields }
+        }),*]
+    };
+}
+
+fn all() -> Vec<Layout> {
+    layouts! {
+        Init { factor, stim, lf, group, main }
+        Setting { mode, width, current }
+        Settings { all }
+        Single { channel, width, current }
+        Wrote { answer, used }
+        ReadInit { answer, ident, used, init }
+        ReadUpdate { answer, ident, used, settings }
+        ReadStop { answer, ident, used }
+        ReadSingle { answer, ident, used, single }
+        Part { offset, size }
+        Ring { capacity, start, used }
+        Pushed { answer, ring }
+        Readout { answer, used }
+        Profile { currents, widths, charge, shortest, watchdog }
+        Run { list, settings, waits, waiting, position, cycle, watch }
+        Core { holda, holdb, state, run }
+        PartialFrame { bytes, len, kept }
+        BoxRecord { profile, clock, core, partial, ring }
+        Released { clock, channel, width, current }
+        Said { answer, reply, a, b }
+        Made { answer, made }
+        Called { said, next }
+    }
+}
+
+/// A line for each field behind which there are bytes before the next, or before the end.
+fn gaps(layout: &Layout) -> Vec<String> {
+    let mut fields: Vec<&Laid> = layout.fields.iter().collect();
+    fields.sort_by_key(|laid| laid.offset);
+    let ends = fields.iter().skip(1).map(|next| next.offset).chain([layout.size]);
+    let gap = |(laid, end): (&&Laid, usize)| {
+        let (name, field, gap) = (layout.name, laid.field, laid.offset + laid.size..end);
+        let told = || format!("struct {name}: bytes {gap:?}, behind {field}, are no field's");
+        (!gap.is_empty()).then(told)
+    };
+    fields.iter().zip(ends).filter_map(gap).collect()
+}
+
+#[test]
+fn no_struct_has_a_gap() {
+    let gaps: Vec<String> = all().iter().flat_map(gaps).collect();
+    assert!(gaps.is_empty(), "\n{}", gaps.join("\n"));
+}
+
+/// `all` lacks none of the structs that are declared.
+#[test]
+fn every_struct_is_looked_at() {
+    let sources = sources::below("host/src/raw", ".rs");
+    let items = sources.iter().flat_map(|(file, text)| rust::items(file, text));
+    let structs = items.filter_map(|(name, _)| Some(name.strip_prefix("struct ")?.to_owned()));
+    let looked_at = all().iter().map(|layout| layout.name.to_owned()).collect();
+    assert_eq!(structs.collect::<BTreeSet<String>>(), looked_at);
+}
+
+#[test]
+fn a_usize_has_8_bytes() {
+    assert_eq!(size_of::<usize>(), 8);
+}
+
+#[test]
+fn gaps_are_told() {
+    #[derive(Default)]
+    #[repr(C)]
+    struct Within {
+        first: u8,
+        second: u16,
+        third: u8,
+    }
+    #[derive(Default)]
+    #[repr(C)]
+    struct AtTheEnd {
+        long: u32,
+        within: Within,
+    }
+    let layouts = layouts! {
+        Within { third, second, first }
+        AtTheEnd { long, within }
+        Ring { capacity, start, used }
+    };
+    let told: Vec<String> = layouts.iter().flat_map(gaps).collect();
+    assert_eq!(
+        told,
+        [
+            "struct Within: bytes 1..2, behind first, are no field's",
+            "struct Within: bytes 5..6, behind third, are no field's",
+            "struct AtTheEnd: bytes 10..12, behind within, are no field's",
+        ]
+    );
+}
