@@ -13,6 +13,7 @@ mod frames;
 mod guard;
 mod profile;
 pub mod raw;
+mod record;
 mod refusal;
 mod state;
 mod told;

@@ -137,7 +137,7 @@ impl History<'_> {
         let mut after = before.clone();
         let said = after.call(rng, call)?;
         if answered(&said).refuses() {
-            after.unchanged(&before)?;
+            after.same_buffer(&before)?;
         }
         self.met.call(call, before.record(), &said, after.record());
         if let Some(field) = damaged {

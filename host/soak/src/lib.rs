@@ -1,6 +1,7 @@
 //! Random histories of calls on the box of document 01. Each call is made three times: on the
 //! library's box changed in place, on the library's box by value, and on the independent machine.
-//! After every call all that they say, keep and leave in the lent memory is the same.
+//! After every call all that they say, keep and leave in the lent memory is the same, and of a lent
+//! record every byte.
 //!
 //! `history` is that trial, `pairs` that of two boxes of which one has the tighter profile. Both
 //! are fixed by their seed. `met` counts what they came across: a trial that met nothing shows

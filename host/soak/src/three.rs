@@ -1,6 +1,7 @@
 //! The three boxes that are called alike.
 
 use crate::failure::{same, same_bytes};
+use crate::met::answered;
 use crate::{alike, numbers};
 use independent::plain::machine as plain;
 use rand::rngs::SmallRng;
@@ -59,9 +60,10 @@ impl Three {
         &self.buffers[0]
     }
 
-    /// Makes the call on each, compares all of them, and hands back what they say.
+    /// Makes the call on each, compares all of them, and hands back what they say. The box in place
+    /// is compared byte by byte too, after a refusal with what it was.
     pub fn call(&mut self, rng: &mut SmallRng, call: Call) -> Result<Said, String> {
-        let (before, at) = (self.by_value, self.at);
+        let (before, at) = (*self.in_place, self.at);
         let told = |what: &str| format!("{what} of {call:?} at {at:?} on {before:?}");
         let [in_place, by_value, expected] = match call {
             Call::Byte(n) => self.byte(n),
@@ -73,6 +75,13 @@ impl Three {
         let record = alike::record(&self.plain);
         same(&*self.in_place, &record, || told("the box in place"))?;
         same(&self.by_value, &record, || told("the box by value"))?;
+        let lent = self.in_place.bytes();
+        for expected in [&self.by_value, &record] {
+            same_bytes(lent, expected.bytes(), || told("the lent record's bytes"))?;
+        }
+        if answered(&expected).refuses() {
+            same_bytes(lent, before.bytes(), || told("the lent record's bytes after a refusal"))?;
+        }
         let [in_place, by_value, plain] = &self.buffers;
         same_bytes(in_place, plain, || told("the buffer in place"))?;
         same_bytes(by_value, plain, || told("the buffer by value"))?;
@@ -118,9 +127,8 @@ impl Three {
         Ok([Said { answer: expected.answer as u16, ..Said::default() }; 3])
     }
 
-    /// Whether box and buffer are those of another.
-    pub fn unchanged(&self, before: &Three) -> Result<(), String> {
-        same(self.record(), before.record(), || "the box after a refusal".to_owned())?;
+    /// Whether the buffer is that of another.
+    pub fn same_buffer(&self, before: &Three) -> Result<(), String> {
         same_bytes(self.buffer(), before.buffer(), || "the buffer after a refusal".to_owned())
     }
 }

@@ -1,51 +1,56 @@
-//! The exports once more, declared on bytes alone, so that no struct of ours says where a number
-//! lies. The sizes and alignments are those of the library; structs as large go through memory.
+//! The exports for a box once more, declared on bytes alone, so that every byte that the library
+//! leaves is seen. Structs as large go through memory.
 
-use yarrowbell::raw::Part;
+use std::mem::{offset_of, size_of};
+use yarrowbell::raw::{BoxRecord, Called, Made, Part, Profile, Said};
+use yarrowbell::Answer;
 
-#[derive(Clone, Copy)]
-#[repr(C, align(4))]
-pub struct ProfileBytes(pub [u8; 36]);
-
+/// As many bytes as a struct has, aligned as it is.
 #[derive(Clone, Copy, Debug, PartialEq, Eq)]
-#[repr(C, align(4))]
-pub struct BoxBytes(pub [u8; 168]);
+#[repr(C)]
+pub struct Bytes<S, const SIZE: usize> {
+    aligned: [S; 0],
+    pub all: [u8; SIZE],
+}
 
-#[repr(C, align(4))]
-pub struct SaidBytes(pub [u8; 20]);
+pub type ProfileBytes = Bytes<Profile, { size_of::<Profile>() }>;
+pub type BoxBytes = Bytes<BoxRecord, { size_of::<BoxRecord>() }>;
+pub type SaidBytes = Bytes<Said, { size_of::<Said>() }>;
+pub type MadeBytes = Bytes<Made, { size_of::<Made>() }>;
+pub type CalledBytes = Bytes<Called, { size_of::<Called>() }>;
 
-#[repr(C, align(4))]
-pub struct MadeBytes(pub [u8; 172]);
-
-#[repr(C, align(4))]
-pub struct CalledBytes(pub [u8; 188]);
+impl<S, const SIZE: usize> Bytes<S, SIZE> {
+    pub fn new(all: [u8; SIZE]) -> Bytes<S, SIZE> {
+        Bytes { aligned: [], all }
+    }
+}
 
 extern "C" {
-    fn yarrowbell_make(profile: ProfileBytes, capacity: u32) -> MadeBytes;
+    fn yarrowbell_make(profile: ProfileBytes, capacity: usize) -> MadeBytes;
     fn yarrowbell_byte(
-        record: BoxBytes,
-        buffer: *mut u8,
-        length: usize,
+        b: BoxBytes,
+        buf: *mut u8,
+        buf_length: usize,
         at: Part,
         n: u8,
     ) -> CalledBytes;
-    fn yarrowbell_tick(record: BoxBytes, buffer: *mut u8, length: usize, at: Part) -> CalledBytes;
+    fn yarrowbell_tick(b: BoxBytes, buf: *mut u8, buf_length: usize, at: Part) -> CalledBytes;
     fn yarrowbell_byte_in_place(
-        record: *mut BoxBytes,
-        buffer: *mut u8,
-        length: usize,
+        b: *mut BoxBytes,
+        buf: *mut u8,
+        buf_length: usize,
         at: Part,
         n: u8,
     ) -> SaidBytes;
     fn yarrowbell_tick_in_place(
-        record: *mut BoxBytes,
-        buffer: *mut u8,
-        length: usize,
+        b: *mut BoxBytes,
+        buf: *mut u8,
+        buf_length: usize,
         at: Part,
     ) -> SaidBytes;
 }
 
-pub fn make(profile: ProfileBytes, capacity: u32) -> MadeBytes {
+pub fn make(profile: ProfileBytes, capacity: usize) -> MadeBytes {
     // SAFETY: it takes and gives numbers alone.
     unsafe { yarrowbell_make(profile, capacity) }
 }
@@ -63,30 +68,47 @@ impl Unit {
     }
 
     pub fn byte(&mut self, n: u8) -> SaidBytes {
-        let at = self.part();
-        let (buffer, length) = (self.ring.as_mut_ptr(), self.ring.len());
+        let (before, mut ring, at) = (self.clone(), self.ring.clone(), self.part());
+        let (buf, length) = (ring.as_mut_ptr(), ring.len());
+        // SAFETY: the buffer is lent to this call alone.
+        let called = unsafe { yarrowbell_byte(*self.record, buf, length, at, n) };
+        let buf = self.ring.as_mut_ptr();
         // SAFETY: the record and the buffer are lent to this call alone.
-        unsafe { yarrowbell_byte_in_place(&mut *self.record, buffer, length, at, n) }
+        let said = unsafe { yarrowbell_byte_in_place(&mut *self.record, buf, length, at, n) };
+        self.compare(&before, &said, &called, &ring);
+        said
     }
 
     pub fn tick(&mut self) -> SaidBytes {
-        let at = self.part();
-        let (buffer, length) = (self.ring.as_mut_ptr(), self.ring.len());
+        let (before, mut ring, at) = (self.clone(), self.ring.clone(), self.part());
+        let (buf, length) = (ring.as_mut_ptr(), ring.len());
+        // SAFETY: the buffer is lent to this call alone.
+        let called = unsafe { yarrowbell_tick(*self.record, buf, length, at) };
+        let buf = self.ring.as_mut_ptr();
         // SAFETY: the record and the buffer are lent to this call alone.
-        unsafe { yarrowbell_tick_in_place(&mut *self.record, buffer, length, at) }
+        let said = unsafe { yarrowbell_tick_in_place(&mut *self.record, buf, length, at) };
+        self.compare(&before, &said, &called, &ring);
+        said
     }
 
-    /// The byte by value; the unit stays.
-    pub fn byte_by_value(&self, n: u8) -> CalledBytes {
-        let mut ring = self.ring.clone();
-        // SAFETY: the buffer is lent to this call alone.
-        unsafe { yarrowbell_byte(*self.record, ring.as_mut_ptr(), ring.len(), self.part(), n) }
+    /// What a call in place has said and left is what the call by value hands back and leaves, byte
+    /// by byte. A refusal has left all.
+    fn compare(&self, before: &Unit, said: &SaidBytes, called: &CalledBytes, ring: &[u8]) {
+        let (by_value, next) = (offset_of!(Called, said), offset_of!(Called, next));
+        same("what is said", &said.all, &called.all[by_value..][..size_of::<Said>()]);
+        same("the record", &self.record.all, &called.all[next..][..size_of::<BoxRecord>()]);
+        same("the ring", &self.ring, ring);
+        let answer = Answer::from_number(said.all[offset_of!(Said, answer)]);
+        if answer.is_some_and(Answer::refuses) {
+            same("the record after a refusal", &self.record.all, &before.record.all);
+            same("the ring after a refusal", &self.ring, &before.ring);
+        }
     }
+}
 
-    /// The tick by value; the unit stays.
-    pub fn tick_by_value(&self) -> CalledBytes {
-        let mut ring = self.ring.clone();
-        // SAFETY: the buffer is lent to this call alone.
-        unsafe { yarrowbell_tick(*self.record, ring.as_mut_ptr(), ring.len(), self.part()) }
-    }
+pub fn same(what: &str, found: &[u8], expected: &[u8]) {
+    assert_eq!(found.len(), expected.len(), "{what}");
+    let places = (0..found.len()).filter(|&place| found[place] != expected[place]);
+    let places: Vec<usize> = places.collect();
+    assert!(places.is_empty(), "{what} differs in the bytes {places:?}");
 }

@@ -1,25 +1,34 @@
-//! The layouts on the library's side of the boundary, found by calls on bytes.
+//! The numbers of a box on the library's side of the boundary, found by calls on bytes: each lies
+//! where Rust has it.
 
-use crate::bytes::{self, BoxBytes, ProfileBytes, Unit};
+use crate::bytes::{self, Bytes, ProfileBytes, Unit};
+use std::mem::{offset_of, size_of};
+use std::ptr;
+use yarrowbell::raw::{BoxRecord, Made, Profile, Said};
 use yarrowbell::{write, Command, Init, Setting};
 
-/// A number at its place in a struct: offset, bytes, value.
+/// A number in a struct: offset, bytes, value.
 type Number = (usize, usize, u64);
 
-const CAPACITY: u32 = 48;
+const CAPACITY: usize = 48;
 
-/// The offsets of a box.
-const CLOCK: usize = 36;
-const CORE: usize = 40;
-const RUN: usize = CORE + 4;
-const SETTINGS: usize = RUN + 20;
-const WAITING: usize = RUN + 52;
-const PARTIAL: usize = 128;
-const RING: usize = 156;
+/// This value where Rust has that number.
+fn number<S: Default, N>(of: impl Fn(&S) -> &N, value: u64) -> Number {
+    let all = S::default();
+    let offset = ptr::from_ref(of(&all)).addr() - ptr::from_ref(&all).addr();
+    (offset, size_of::<N>(), value)
+}
 
-fn number(bytes: &[u8], (offset, size, _): Number) -> u64 {
-    let digits = bytes[offset..][..size].iter().rev();
-    digits.fold(0, |number, &digit| number << 8 | u64::from(digit))
+fn of_profile<N>(of: impl Fn(&Profile) -> &N, value: u64) -> Number {
+    number(of, value)
+}
+
+fn of_box<N>(of: impl Fn(&BoxRecord) -> &N, value: u64) -> Number {
+    number(of, value)
+}
+
+fn of_said<N>(of: impl Fn(&Said) -> &N, value: u64) -> Number {
+    number(of, value)
 }
 
 fn put(bytes: &mut [u8], (offset, size, value): Number) {
@@ -27,26 +36,37 @@ fn put(bytes: &mut [u8], (offset, size, value): Number) {
 }
 
 fn has(bytes: &[u8], numbers: &[Number]) {
-    for &at in numbers {
-        assert_eq!(number(bytes, at), at.2, "the {} bytes at {}", at.1, at.0);
+    for &(offset, size, value) in numbers {
+        let digits = bytes[offset..][..size].iter().rev();
+        let found = digits.fold(0, |number, &digit| number << 8 | u64::from(digit));
+        assert_eq!(found, value, "the {size} bytes at {offset}");
     }
+}
+
+fn answers(said: &[u8], answer: u64) {
+    has(said, &[of_said(|said| &said.answer, answer)]);
 }
 
 /// A profile of which every number is another one.
 fn profile() -> Vec<Number> {
-    let currents = (0..8).map(|channel| (channel, 1, 101 + channel as u64));
-    let widths = (0..8).map(|channel| (8 + 2 * channel, 2, 401 + channel as u64));
-    let others = [(24, 4, 0xE123), (28, 4, 0x0102), (32, 4, 0x8_0706)];
+    let currents = (0..8).map(|channel| of_profile(|p| &p.currents[channel], 101 + channel as u64));
+    let widths = (0..8).map(|channel| of_profile(|p| &p.widths[channel], 401 + channel as u64));
+    let others = [
+        of_profile(|p| &p.charge, 0xE123),
+        of_profile(|p| &p.shortest, 0x0102),
+        of_profile(|p| &p.watchdog, 0x8_0706),
+    ];
     currents.chain(widths).chain(others).collect()
 }
 
 fn made() -> Unit {
-    let mut bytes = ProfileBytes([0; 36]);
-    profile().into_iter().for_each(|at| put(&mut bytes.0, at));
-    let made = bytes::make(bytes, CAPACITY).0;
-    has(&made, &[(0, 4, 0)]);
-    let record = made[4..].try_into().expect("a box has 168 bytes");
-    Unit { record: Box::new(BoxBytes(record)), ring: vec![0; CAPACITY as usize] }
+    let mut bytes = ProfileBytes::new([0; size_of::<Profile>()]);
+    profile().into_iter().for_each(|number| put(&mut bytes.all, number));
+    let made = bytes::make(bytes, CAPACITY).all;
+    has(&made, &[number(|made: &Made| &made.answer, 0)]);
+    let record = made[offset_of!(Made, made)..][..size_of::<BoxRecord>()].try_into();
+    let record = Bytes::new(record.expect("it has the size"));
+    Unit { record: Box::new(record), ring: vec![0; CAPACITY] }
 }
 
 /// Sends a command: it is carried out.
@@ -54,7 +74,7 @@ fn send(unit: &mut Unit, command: &Command, count: usize) {
     let mut frame = [0; 25];
     let used = write(command, count, &mut frame).expect("the command is good");
     let said = frame[..used].iter().map(|&byte| unit.byte(byte));
-    has(&said.last().expect("a frame has bytes").0, &[(0, 2, 0)]);
+    answers(&said.last().expect("a frame has bytes").all, 0);
 }
 
 /// The settings of channels 1, 3 and 6 for an Update.
@@ -66,14 +86,27 @@ fn update(first: u8) -> Command {
     Command::Update(settings)
 }
 
-/// The same settings where a box has them, each at its channel.
-fn settings(offset: usize, first: u64) -> Vec<Number> {
-    let setting = |(mode, channel): (u64, usize)| {
-        let at = offset + 4 * (channel - 1);
-        [(at, 2, 260 + first + mode), (at + 2, 1, mode), (at + 3, 1, first + mode)]
-    };
-    let listed = (0..).zip([1, 3, 6]).flat_map(setting);
-    let silent = [2, 4, 5, 7, 8].map(|channel| (offset + 4 * (channel - 1), 4, 0));
+/// Which settings of a box.
+type Settings = fn(&BoxRecord) -> &[Setting; 8];
+
+const RULING: Settings = |b| &b.core.run.settings;
+const WAITING: Settings = |b| &b.core.run.waiting;
+
+/// A channel's setting.
+fn setting(of: Settings, channel: usize, mode: u64, width: u64, current: u64) -> [Number; 3] {
+    [
+        of_box(|b| &of(b)[channel - 1].mode, mode),
+        of_box(|b| &of(b)[channel - 1].width, width),
+        of_box(|b| &of(b)[channel - 1].current, current),
+    ]
+}
+
+/// The settings of an Update where a box has them, each at its channel.
+fn settings(of: Settings, first: u64) -> Vec<Number> {
+    let listed = (0..).zip([1, 3, 6]);
+    let listed = listed
+        .flat_map(|(mode, channel)| setting(of, channel, mode, 260 + first + mode, first + mode));
+    let silent = [2, 4, 5, 7, 8].into_iter().flat_map(|channel| setting(of, channel, 0, 0, 0));
     listed.chain(silent).collect()
 }
 
@@ -92,43 +125,68 @@ fn running() -> Unit {
         unit.tick();
     }
     for byte in [0xA7, 0x11, 0x12, 0x13] {
-        has(&unit.byte(byte).0, &[(0, 2, 1)]);
+        answers(&unit.byte(byte).all, 1);
     }
     unit
 }
 
 #[test]
 fn a_made_box() {
-    let unit = made();
-    has(&unit.record.0, &profile());
-    has(&unit.record.0, &[(RING, 4, 48)]);
-    assert!(unit.record.0[CLOCK..RING].iter().all(|&byte| byte == 0));
-    assert!(unit.record.0[RING + 4..].iter().all(|&byte| byte == 0));
+    let record = made().record.all;
+    has(&record[offset_of!(BoxRecord, profile)..], &profile());
+    let rest = [
+        of_box(|b| &b.clock, 0),
+        of_box(|b| &b.core.holda, 0),
+        of_box(|b| &b.core.holdb, 0),
+        of_box(|b| &b.core.state, 0),
+        of_box(|b| &b.ring.capacity, 48),
+        of_box(|b| &b.ring.start, 0),
+    ];
+    has(&record, &rest);
 }
 
+/// "A refusal gives an all-zero record": every byte of it.
 #[test]
 fn a_refused_making() {
-    let made = bytes::make(ProfileBytes([0; 36]), CAPACITY).0;
-    has(&made, &[(0, 4, 11)]);
-    assert!(made[4..].iter().all(|&byte| byte == 0));
+    let made = bytes::make(ProfileBytes::new([0; size_of::<Profile>()]), CAPACITY).all;
+    has(&made, &[number(|made: &Made| &made.answer, 11)]);
+    let record = &made[offset_of!(Made, made)..][..size_of::<BoxRecord>()];
+    bytes::same("the record", record, &[0; size_of::<BoxRecord>()]);
 }
 
 #[test]
 fn a_running_box() {
     let unit = running();
-    let record = &unit.record.0;
-    has(record, &profile());
-    let clock = 1305 + 0x204 + 0x101;
-    has(record, &[(CLOCK, 4, clock), (CORE, 1, 0), (CORE + 1, 1, 0), (CORE + 2, 2, 1)]);
-    let list = [(0, 1, 2), (1, 1, 0b10_0101), (2, 1, 0b1000_0100), (3, 1, 9), (4, 2, 0x103)];
-    has(record, &list.map(|(offset, size, value)| (RUN + offset, size, value)));
-    has(record, &settings(SETTINGS, 40));
-    has(record, &[(RUN + 16, 4, 1)]);
+    let record = &unit.record.all;
+    has(&record[offset_of!(BoxRecord, profile)..], &profile());
+    has(record, &settings(RULING, 40));
     has(record, &settings(WAITING, 70));
-    has(record, &[(RUN + 6, 2, 0x305), (RUN + 8, 4, 1), (RUN + 12, 4, 0x101)]);
-    has(record, &[(PARTIAL, 4, 0x1312_11A7), (PARTIAL + 25, 1, 10), (PARTIAL + 26, 2, 4)]);
-    // The answers to Init and Update have made room for four pulses and an answer.
-    has(record, &[(RING, 4, 48), (RING + 4, 4, 14), (RING + 8, 4, 43)]);
+    let rest = [
+        of_box(|b| &b.clock, 1305 + 0x204 + 0x101),
+        of_box(|b| &b.core.holda, 0),
+        of_box(|b| &b.core.holdb, 0),
+        of_box(|b| &b.core.state, 1),
+        of_box(|b| &b.core.run.list.factor, 2),
+        of_box(|b| &b.core.run.list.stim, 0b10_0101),
+        of_box(|b| &b.core.run.list.lf, 0b1000_0100),
+        of_box(|b| &b.core.run.list.group, 9),
+        of_box(|b| &b.core.run.list.main, 0x103),
+        of_box(|b| &b.core.run.waits, 1),
+        of_box(|b| &b.core.run.position, 0x305),
+        of_box(|b| &b.core.run.cycle, 1),
+        of_box(|b| &b.core.run.watch, 0x101),
+        of_box(|b| &b.partial.bytes[0], 0xA7),
+        of_box(|b| &b.partial.bytes[1], 0x11),
+        of_box(|b| &b.partial.bytes[2], 0x12),
+        of_box(|b| &b.partial.bytes[3], 0x13),
+        of_box(|b| &b.partial.len, 4),
+        of_box(|b| &b.partial.kept, 10),
+        // The answers to Init and Update have made room for four pulses and an answer.
+        of_box(|b| &b.ring.capacity, 48),
+        of_box(|b| &b.ring.start, 14),
+        of_box(|b| &b.ring.used, 43),
+    ];
+    has(record, &rest);
     assert_eq!(unit.ring[14], 2);
 }
 
@@ -137,82 +195,105 @@ fn holds_and_pulses() {
     let mut unit = made();
     let says = |unit: &mut Unit, frame: [u8; 4], numbers: &[Number]| {
         for byte in &frame[..3] {
-            has(&unit.byte(*byte).0, &[(0, 2, 1), (2, 2, 0)]);
+            let unfinished = [of_said(|said| &said.answer, 1), of_said(|said| &said.reply, 0)];
+            has(&unit.byte(*byte).all, &unfinished);
         }
-        let called = unit.byte_by_value(frame[3]).0;
-        has(&called, numbers);
-        has(&unit.byte(frame[3]).0, numbers);
-        assert_eq!(called[20..], unit.record.0);
+        let said = unit.byte(frame[3]).all;
+        has(&said, &[of_said(|said| &said.answer, 0), of_said(|said| &said.reply, 0xC1)]);
+        has(&said, numbers);
     };
     // Channel 3, 200 µs, 100 mA, and channel 6, 221 µs, 55 mA.
-    let a = [(0, 2, 0), (2, 2, 0xC1), (4, 4, 0), (8, 2, 200), (10, 1, 3), (11, 1, 100)];
+    let a = [
+        of_said(|said| &said.a.clock, 0),
+        of_said(|said| &said.a.channel, 3),
+        of_said(|said| &said.a.width, 200),
+        of_said(|said| &said.a.current, 100),
+    ];
     says(&mut unit, [0xEE, 0x21, 0x48, 0x64], &a);
     for _ in 0..4 {
-        let called = unit.tick_by_value().0;
-        has(&unit.tick().0, &[(0, 2, 0), (2, 2, 0)]);
-        assert_eq!(called[20..], unit.record.0);
+        has(&unit.tick().all, &[of_said(|said| &said.answer, 0), of_said(|said| &said.reply, 0)]);
     }
-    let b = [(0, 2, 0), (2, 2, 0xC1), (12, 4, 4), (16, 2, 221), (18, 1, 6), (19, 1, 55)];
+    let b = [
+        of_said(|said| &said.b.clock, 4),
+        of_said(|said| &said.b.channel, 6),
+        of_said(|said| &said.b.width, 221),
+        of_said(|said| &said.b.current, 55),
+    ];
     says(&mut unit, [0xF9, 0x51, 0x5D, 0x37], &b);
-    has(&unit.record.0, &[(CORE, 1, 11), (CORE + 1, 1, 15), (CORE + 2, 2, 0)]);
+    let core = [
+        of_box(|b| &b.core.holda, 11),
+        of_box(|b| &b.core.holdb, 15),
+        of_box(|b| &b.core.state, 0),
+    ];
+    has(&unit.record.all, &core);
 }
 
-/// A bad value for every number of a running box but Channel_Lf, which has none.
-fn bad_values(unit: &Unit) -> Vec<Number> {
-    let clock = number(&unit.record.0, (CLOCK, 4, 0));
+/// A bad value for every number of the running box but Channel_Lf, which has none.
+fn bad_values() -> Vec<Number> {
     let mut bad = Vec::new();
-    for channel in 0..8 {
-        bad.extend([(channel, 1, 128), (8 + 2 * channel, 2, 501)]);
-        for offset in [SETTINGS + 4 * channel, WAITING + 4 * channel] {
-            bad.extend([(offset, 2, 501), (offset + 2, 1, 3), (offset + 3, 1, 128)]);
-        }
+    for channel in 1..=8 {
+        bad.push(of_box(|b| &b.profile.currents[channel - 1], 128));
+        bad.push(of_box(|b| &b.profile.widths[channel - 1], 501));
+        bad.extend(setting(RULING, channel, 3, 501, 128));
+        bad.extend(setting(WAITING, channel, 3, 501, 128));
     }
-    bad.extend([(24, 4, 63_501), (28, 4, 29), (32, 4, 600_001), (CLOCK, 4, 0)]);
-    bad.extend([(CORE, 1, 16), (CORE + 1, 1, 16), (CORE + 2, 2, 3), (CORE + 2, 2, 0x101)]);
-    bad.extend([(RUN, 1, 8), (RUN + 1, 1, 0), (RUN + 3, 1, 30), (RUN + 4, 2, 2_046)]);
-    bad.extend([(RUN + 6, 2, 1_305), (RUN + 8, 4, clock + 1), (RUN + 12, 4, 0x8_0706)]);
-    bad.extend([(RUN + 16, 4, 2), (RUN + 16, 4, 0x101), (28, 4, 0x1_0102)]);
-    bad.extend([(PARTIAL, 1, 0x27), (PARTIAL + 1, 1, 0x80), (PARTIAL + 3, 1, 0x80)]);
-    bad.extend((4..25).map(|place| (PARTIAL + place, 1, 1)));
-    bad.extend([(PARTIAL + 25, 1, 13), (PARTIAL + 26, 2, 10), (PARTIAL + 26, 2, 0x104)]);
-    bad.extend([(RING, 4, 15), (RING + 4, 4, 48), (RING + 8, 4, 49), (RING, 4, 0x1_0030)]);
+    bad.extend([
+        of_box(|b| &b.profile.charge, 63_501),
+        of_box(|b| &b.profile.shortest, 29),
+        of_box(|b| &b.profile.watchdog, 600_001),
+        of_box(|b| &b.clock, 0),
+        of_box(|b| &b.core.holda, 16),
+        of_box(|b| &b.core.holdb, 16),
+        of_box(|b| &b.core.state, 3),
+        of_box(|b| &b.core.run.list.factor, 8),
+        of_box(|b| &b.core.run.list.stim, 0),
+        of_box(|b| &b.core.run.list.group, 30),
+        of_box(|b| &b.core.run.list.main, 2_046),
+        of_box(|b| &b.core.run.waits, 2),
+        of_box(|b| &b.core.run.position, 1_305),
+        of_box(|b| &b.core.run.cycle, 1305 + 0x204 + 0x101 + 1),
+        of_box(|b| &b.core.run.watch, 0x8_0706),
+        of_box(|b| &b.partial.bytes[0], 0x27),
+        of_box(|b| &b.partial.bytes[1], 0x80),
+        of_box(|b| &b.partial.bytes[3], 0x80),
+        of_box(|b| &b.partial.len, 10),
+        of_box(|b| &b.partial.kept, 13),
+        of_box(|b| &b.ring.capacity, 15),
+        of_box(|b| &b.ring.start, 48),
+        of_box(|b| &b.ring.used, 49),
+    ]);
+    bad.extend((4..25).map(|place| of_box(|b| &b.partial.bytes[place], 1)));
     bad
 }
 
-/// All four calls give this answer.
-fn answered(unit: &Unit, answer: u64, said: &str) {
-    let by_value = [unit.byte_by_value(0x14).0, unit.tick_by_value().0];
-    let in_place = [unit.clone().byte(0x14).0, unit.clone().tick().0];
-    for bytes in
-        by_value.iter().map(|bytes| &bytes[..]).chain(in_place.iter().map(|bytes| &bytes[..]))
-    {
-        assert_eq!(number(bytes, (0, 2, 0)), answer, "{said}");
+/// Byte and tick are refused with 12 once this number is put into the box.
+fn spoils(unit: &Unit, number: Number) {
+    let mut spoilt = unit.clone();
+    put(&mut spoilt.record.all, number);
+    for said in [spoilt.clone().byte(0x14), spoilt.clone().tick()] {
+        let (offset, _, value) = number;
+        assert_eq!(said.all[offset_of!(Said, answer)], 12, "{value} at {offset}");
     }
 }
 
 #[test]
 fn each_bad_value_is_seen() {
     let unit = running();
-    let taken = unit.clone();
-    has(&taken.clone().byte(0x14).0, &[(0, 2, 1)]);
-    has(&taken.clone().tick().0, &[(0, 2, 0)]);
-    for at in bad_values(&unit) {
-        let mut spoilt = unit.clone();
-        put(&mut spoilt.record.0, at);
-        answered(&spoilt, 12, &format!("{} at {}", at.2, at.0));
-        let mut after = spoilt.clone();
-        after.tick();
-        assert_eq!(after.record, spoilt.record);
-    }
+    answers(&unit.clone().byte(0x14).all, 1);
+    answers(&unit.clone().tick().all, 0);
+    bad_values().into_iter().for_each(|number| spoils(&unit, number));
 }
 
 /// Every number of a list in an idle box, Channel_Lf among them.
 #[test]
 fn an_idle_box_has_no_list() {
-    let numbers = [(RUN, 1), (RUN + 1, 1), (RUN + 2, 1), (RUN + 3, 1), (RUN + 4, 2), (RUN + 12, 4)];
-    for (offset, size) in numbers {
-        let mut unit = made();
-        put(&mut unit.record.0, (offset, size, 1));
-        answered(&unit, 12, &format!("1 at {offset}"));
-    }
+    let numbers = [
+        of_box(|b| &b.core.run.list.factor, 1),
+        of_box(|b| &b.core.run.list.stim, 1),
+        of_box(|b| &b.core.run.list.lf, 1),
+        of_box(|b| &b.core.run.list.group, 1),
+        of_box(|b| &b.core.run.list.main, 1),
+        of_box(|b| &b.core.run.watch, 1),
+    ];
+    numbers.into_iter().for_each(|number| spoils(&made(), number));
 }
