@@ -63,7 +63,8 @@ pub fn write(command: &Command, count: usize, out: &mut [u8]) -> Result<usize, A
     }
 }
 
-/// The reply byte to a decided command, of whose Ident only the low two bits count.
+/// The reply byte to a decided command, of whose Ident only the low two bits count; 0 where the
+/// answer decides none.
 pub fn reply(ident: u8, answer: Answer) -> u8 {
     calls::reply(ident, answer.number())
 }

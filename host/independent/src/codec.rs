@@ -78,9 +78,14 @@ pub fn free_bits(kind: Kind, count: usize) -> Vec<u8> {
     Layout::of(kind).rows(count).map(|(row, _)| walk::free(row)).collect()
 }
 
-/// Section 5.7: Ident in bits 7 and 6, "1 = OK, 0 = error" in bit 0; document 01: the rest clear.
+/// Section 5.7: Ident in bits 7 and 6, "1 = OK, 0 = error" in bit 0; document 01: the rest clear,
+/// and "no command decided: reply 0", where a command is given 0 or 3 to 10.
 pub fn reply(ident: u8, answer: u8) -> u8 {
-    ident % 4 * 64 + if answer == 0 { 1 } else { 0 }
+    match answer {
+        0 => ident % 4 * 64 + 1,
+        3..=10 => ident % 4 * 64,
+        _ => 0,
+    }
 }
 
 fn sum(places: &Places) -> u32 {

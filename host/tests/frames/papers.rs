@@ -112,14 +112,19 @@ fn update_example_of_source_004_as_spelt() {
     assert_eq!(agree::read(&frame, 4), Err(3));
 }
 
-/// Source 003, section 5.7: Ident in bits 7 and 6, and 1 in bit 0 if all went well.
+/// Source 003, section 5.7: Ident in bits 7 and 6, and 1 in bit 0 if all went well. Document 01: "No
+/// command decided: reply 0."
 #[test]
 fn acknowledgements() {
     for (ident, well, badly) in [(0, 0x01, 0x00), (1, 0x41, 0x40), (2, 0x81, 0x80), (3, 0xC1, 0xC0)]
     {
-        assert_eq!(reply(ident, Answer::Done), well);
-        for answer in &Answer::ALL[1..] {
-            assert_eq!(reply(ident, *answer), badly);
+        for answer in Answer::ALL {
+            let byte = match answer {
+                Answer::Done => well,
+                _ if answer.decides() => badly,
+                _ => 0x00,
+            };
+            assert_eq!(reply(ident, answer), byte);
         }
     }
 }

@@ -25,18 +25,16 @@ pub fn of(
         lines.push(format!("--channels {count} is not good: a list has 1 to 8 channels"));
     }
     let ident = given.bytes[0] >> 5 & 3;
-    let (used, answer, reply) = match read {
-        Ok(frame) => (frame.used, "answer 0: good frame".to_owned(), reply(ident, Answer::Done)),
-        Err(answer) => {
-            // A command is decided by a whole frame, read for a number that can be listed.
-            let decided = listable && matches!(answer, Answer::WrongCheck | Answer::NotGood);
-            (0, words::answer(*answer), if decided { reply(ident, *answer) } else { 0 })
-        }
+    let (used, answer, words) = match *read {
+        Ok(frame) => (frame.used, Answer::Done, "answer 0: good frame".to_owned()),
+        Err(answer) => (0, answer, words::answer(answer)),
     };
+    // No frame is read for a number that cannot be listed, and so no command decided.
+    let reply = if listable { reply(ident, answer) } else { 0 };
     lines.push(format!("bytes used {used}"));
     if !given.behind().is_empty() {
         lines.push(format!("bytes behind, not used: {}", hex::spelt(given.behind())));
     }
-    lines.push(format!("{answer}, reply {}", hex::spelt(&[reply])));
+    lines.push(format!("{words}, reply {}", hex::spelt(&[reply])));
     lines
 }

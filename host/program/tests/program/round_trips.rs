@@ -71,8 +71,7 @@ fn says_as_the_package(bytes: &[u8], count: usize) {
             assert_eq!(shown.len(), frame.used, "{line}");
         }
         Err(answer) => {
-            let decided = matches!(answer, Answer::WrongCheck | Answer::NotGood);
-            let replied = if decided { reply(ident, answer) } else { 0 };
+            let replied = reply(ident, answer);
             let last = format!("answer {}: {answer}, reply {replied:02X}", answer.number());
             assert_eq!(text.lines().last(), Some(last.as_str()), "{line}");
             assert!(text.contains("\nbytes used 0\n"), "{line}");
