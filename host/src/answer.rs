@@ -16,8 +16,9 @@ macro_rules! answers {
             /// Every answer, in the order of the numbers.
             pub const ALL: [Answer; [$($number),*].len()] = [$(Answer::$name),*];
 
-            pub fn from_number(number: u8) -> Option<Answer> {
-                match number {
+            /// Of a number in whatever width a report has for it.
+            pub fn from_number(number: impl Into<u32>) -> Option<Answer> {
+                match number.into() {
                     $($number => Some(Answer::$name),)*
                     _ => None,
                 }
@@ -62,11 +63,8 @@ impl Answer {
         self.number() >= Answer::ProfileNotGood.number()
     }
 
-    /// The answer that the library gave by its number, in whatever width.
-    pub(crate) fn known(number: impl TryInto<u8>) -> Answer {
-        let number = number.try_into().ok();
-        number
-            .and_then(Answer::from_number)
-            .expect("the library answers by the numbers of document 01")
+    /// The answer that the library gave by its number.
+    pub(crate) fn known(number: impl Into<u32>) -> Answer {
+        Answer::from_number(number).expect("the library answers by the numbers of document 01")
     }
 }

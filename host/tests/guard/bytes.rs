@@ -26,7 +26,7 @@ impl<S, const SIZE: usize> Bytes<S, SIZE> {
 }
 
 extern "C" {
-    fn yarrowbell_make(profile: ProfileBytes, capacity: usize) -> MadeBytes;
+    fn yarrowbell_make(profile: ProfileBytes, capacity: u32) -> MadeBytes;
     fn yarrowbell_byte(
         b: BoxBytes,
         buf: *mut u8,
@@ -50,7 +50,7 @@ extern "C" {
     ) -> SaidBytes;
 }
 
-pub fn make(profile: ProfileBytes, capacity: usize) -> MadeBytes {
+pub fn make(profile: ProfileBytes, capacity: u32) -> MadeBytes {
     // SAFETY: it takes and gives numbers alone.
     unsafe { yarrowbell_make(profile, capacity) }
 }

@@ -10,7 +10,7 @@ use yarrowbell::{write, Command, Init, Setting};
 /// A number in a struct: offset, bytes, value.
 type Number = (usize, usize, u64);
 
-const CAPACITY: usize = 48;
+const CAPACITY: u32 = 48;
 
 /// This value where Rust has that number.
 fn number<S: Default, N>(of: impl Fn(&S) -> &N, value: u64) -> Number {
@@ -66,7 +66,7 @@ fn made() -> Unit {
     has(&made, &[number(|made: &Made| &made.answer, 0)]);
     let record = made[offset_of!(Made, made)..][..size_of::<BoxRecord>()].try_into();
     let record = Bytes::new(record.expect("it has the size"));
-    Unit { record: Box::new(record), ring: vec![0; CAPACITY] }
+    Unit { record: Box::new(record), ring: vec![0; CAPACITY as usize] }
 }
 
 /// Sends a command: it is carried out.
@@ -263,6 +263,16 @@ fn bad_values() -> Vec<Number> {
         of_box(|b| &b.ring.used, 49),
     ]);
     bad.extend((4..25).map(|place| of_box(|b| &b.partial.bytes[place], 1)));
+    // What the box has, and more in a byte that no good number needs.
+    bad.extend([
+        of_box(|b| &b.profile.shortest, 0x1_0102),
+        of_box(|b| &b.core.state, 0x101),
+        of_box(|b| &b.core.run.waits, 0x101),
+        of_box(|b| &b.partial.len, 0x104),
+        of_box(|b| &b.ring.capacity, 0x1_0030),
+        of_box(|b| &b.ring.start, 0x1_000E),
+        of_box(|b| &b.ring.used, 0x1_002B),
+    ]);
     bad
 }
 
