@@ -84,7 +84,7 @@ fn alone(b: Box) -> Stepped
     ensures { λ r. ⌜ r ≡ carried b (taken (b .profile) (stateOf b) alone) ⌝ }
 {
     let answer = if model::TRIPPED <= b.core.state {
-        answers::TRIPPED
+        answers::WHILE_TRIPPED
     } else {
         answers::NO_LIST
     };

@@ -15,11 +15,11 @@ pub const NO_LIST: u8 = 6;
 
 pub const LIST_RUNS: u8 = 7;
 
-pub const HOLD: u8 = 8;
+pub const IN_HOLD: u8 = 8;
 
 pub const OVER_LIMIT: u8 = 9;
 
-pub const TRIPPED: u8 = 10;
+pub const WHILE_TRIPPED: u8 = 10;
 
 pub const PROFILE_NOT_GOOD: u8 = 11;
 

@@ -135,7 +135,8 @@ pub fn good_single(v: Single) -> bool
 fn is_decision(answer: u8) -> bool
     ensures { λ r. ⌜ r ≡ isDecision answer ⌝ }
 {
-    (answer == answers::DONE) | ((answers::WRONG_CHECK <= answer) & (answer <= answers::TRIPPED))
+    (answer == answers::DONE)
+        | ((answers::WRONG_CHECK <= answer) & (answer <= answers::WHILE_TRIPPED))
 }
 
 // The reply byte to a command of this Ident, of which the two lowest bits count; 0 where the answer decides none.

@@ -119,7 +119,7 @@ pub fn judge_single(p: Profile, m: Core, v: Single) -> u8
         return answers::LIST_RUNS;
     }
     if 0 < hold_of(m, v.channel) {
-        return answers::HOLD;
+        return answers::IN_HOLD;
     }
     if limits::over_limits(p, single_settings(v)) {
         return answers::OVER_LIMIT;

@@ -52,14 +52,14 @@ fn the_numbers_are_document_01s() {
 fn another_number_name_or_answer_is_told() {
     let told = |from, to| compared(&changed(&sources::text(LIBRARY), from, to));
     assert_eq!(
-        told("HOLD: u8 = 8;", "HOLD: u8 = 7;"),
-        [format!("const HOLD, value: {LIBRARY} has `7`, host/src/answer.rs has `8`")]
+        told("IN_HOLD: u8 = 8;", "IN_HOLD: u8 = 7;"),
+        [format!("const IN_HOLD, value: {LIBRARY} has `7`, host/src/answer.rs has `8`")]
     );
     assert_eq!(
-        told("HOLD", "HELD"),
+        told("IN_HOLD", "HELD"),
         [
             format!("const HELD stands in {LIBRARY} alone"),
-            "const HOLD stands in host/src/answer.rs alone".to_owned(),
+            "const IN_HOLD stands in host/src/answer.rs alone".to_owned(),
         ]
     );
     assert_eq!(

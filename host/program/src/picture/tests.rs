@@ -88,7 +88,7 @@ fn a_long_one_is_small() {
         let (width, current) = ((number * 67 % 501) as u16, 1 + (number * 31 % 127) as u16);
         events.push(pulse(number * 7, 1 + (number % 8) as u8, width, current));
         if number % 10 == 0 {
-            let answer = if number % 20 == 0 { Answer::Done } else { Answer::Hold };
+            let answer = if number % 20 == 0 { Answer::Done } else { Answer::InHold };
             events.push(decided(number * 7, State::Running, 0xBB, answer));
         }
     }
