@@ -1,4 +1,4 @@
--- The promise of `specs/Claims`. Assumes nothing.
+-- The record of a refused making. Assumes nothing.
 use mathlib.Core.Path.{refl}
 use Rattle.model.specs.Profiles.{goodProfile}
 use Rattle.record.specs.Box.{boxOf, goodBox}

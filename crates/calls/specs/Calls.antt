@@ -1,5 +1,8 @@
 -- What a byte or a tick gives on any record, any buffer and any part (document 01, "Numbers the box answers"): 12, 13, 14, else the
 -- machine's step, which answers 15 itself, and its records into the ring.
+--
+-- `outcome` has the same call as far as the box record goes: `stepOf` is handed the verdict of the ring's tests as a number, and hands
+-- the records back by value. `callOf` adds the ring: its tests give the verdict, and the records are filed (`CallIsStep`).
 use Prim.Native.Nat.{ℕ}
 use mathlib.Core.Bool.{cond}
 use mathlib.Core.List.{List}

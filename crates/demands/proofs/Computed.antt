@@ -33,7 +33,7 @@ use Rattle.calls.specs.Readout.{readoutOf, readoutBytes}
 use Rattle.trace.specs.Records.{sizeOf}
 use Rattle.trace.specs.Rows.{joined, splitsAfter, recordsAfter}
 use Rattle.trace.specs.Tail.{tailWithin, kept}
-use Rattle.trace.specs.Round.{around, turned, content, storedRound}
+use Rattle.trace.specs.Round.{around, fromStart, content, storedRound}
 use Rattle.trace.specs.Ring.{goodRing, goodPart, withPart, placeAnswer, readyAnswer, readoutAnswer, roomFor, pushedRing, pushedPart, pushed, pushedBuf, readOut, readBytes}
 use Rattle.demands.specs.OneBuffer.{onward, given}
 use Rattle.demands.specs.FreshBox.{sent, loosest}
@@ -63,7 +63,7 @@ pub record Computed : Type 0 where
   pub stopped : length (tailOf loosest 32 (byte 0xC0 ∷ [])) ≡ 7
 
 pub computed : Computed
-unfolding cases firstHigh sumAll goodEntries initWord entryIn settingsIn entriesIn commandIn checkIn settingsBytes readFrame wrote written inSet many placed t1 t2 keepsModules keepsMain largestMode slot inTurn felt hits due overAt overLimits asked breaksTiming inHold overLimit refusals judge accept carry lengthened opened followed arrive decided judged taken byteStep moved releases watched timed tickStep step run after pulsesIn goodProfile goodAt settingFits fits goodRun zeroRun goodCore goodSize goodPartial goodState stateOf frameOf boxOf zeros unusedZero goodBox pulseOf saidOf makeOf filed callOf calls.given readoutOf readoutBytes sizeOf joined splitsAfter recordsAfter tailWithin kept around turned content storedRound goodRing goodPart withPart placeAnswer readyAnswer readoutAnswer roomFor pushedRing pushedPart pushed pushedBuf readOut readBytes onward given
+unfolding cases firstHigh sumAll goodEntries initWord entryIn settingsIn entriesIn commandIn checkIn settingsBytes readFrame wrote written inSet many placed t1 t2 keepsModules keepsMain largestMode slot inTurn felt hits due overAt overLimits asked breaksTiming inHold overLimit refusals judge accept carry lengthened opened followed arrive decided judged taken byteStep moved releases watched timed tickStep step run after pulsesIn goodProfile goodAt settingFits fits goodRun zeroRun goodCore goodSize goodPartial goodState stateOf frameOf boxOf zeros unusedZero goodBox pulseOf saidOf makeOf filed callOf calls.given readoutOf readoutBytes sizeOf joined splitsAfter recordsAfter tailWithin kept around fromStart content storedRound goodRing goodPart withPart placeAnswer readyAnswer readoutAnswer roomFor pushedRing pushedPart pushed pushedBuf readOut readBytes onward given
 computed =
     record {
       claimed = refl;

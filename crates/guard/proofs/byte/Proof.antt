@@ -1,6 +1,6 @@
 use borrow.Author.Needs.{needs}
 use Rattle.model.specs.Machine.{Call.byte}
-use Rattle.guard.proofs.Joined.{call-done}
+use Rattle.calls.proofs.Joined.{call-done}
 use Rattle.guard.proofs.byte.Statement.{statement}
 use Rattle.guard.proofs.byte.Tie as tie
 
