@@ -19,7 +19,7 @@ use Rattle.model.specs.Effects.{accept, carry}
 use Rattle.model.specs.Arrival.{lengthened, opened, followed, arrive, decided, judged, taken, byteStep}
 use Rattle.model.specs.Ticks.{moved, releases, watched, timed, tickStep}
 use Rattle.model.specs.Machine.{Call, Call.byte, Call.tick, step, run, after}
-use Rattle.model.specs.Good.{goodAt, settingFits, fits, goodRun, zeroRun, goodCore, goodSize, goodPartial, goodState}
+use Rattle.model.specs.Good.{allGood, runInRange, inRange, onlyListed, unlistedZero, keepsTiming, keepsProfile, zeroRun, goodSize, goodPartial}
 use Rattle.partial.specs.Partial.{frameOf, zeros, unusedZero}
 use Rattle.record.specs.Box.{stateOf, boxOf, goodBox}
 use Rattle.said.specs.Said.{pulseOf, saidOf}
@@ -63,7 +63,7 @@ pub record Computed : Type 0 where
   pub stopped : length (tailOf loosest 32 (byte 0xC0 ∷ [])) ≡ 7
 
 pub computed : Computed
-unfolding cases firstHigh sumAll goodEntries initWord entryIn settingsIn entriesIn commandIn checkIn settingsBytes readFrame wrote written inSet many placed t1 t2 keepsModules keepsMain largestMode slot inTurn felt hits due overAt overLimits asked breaksTiming inHold overLimit refusals judge accept carry lengthened opened followed arrive decided judged taken byteStep moved releases watched timed tickStep step run after pulsesIn goodProfile goodAt settingFits fits goodRun zeroRun goodCore goodSize goodPartial goodState stateOf frameOf boxOf zeros unusedZero goodBox pulseOf saidOf makeOf filed callOf calls.given readoutOf readoutBytes sizeOf joined splitsAfter recordsAfter tailWithin kept around fromStart content storedRound goodRing goodPart withPart placeAnswer readyAnswer readoutAnswer roomFor pushedRing pushedPart pushed pushedBuf readOut readBytes onward given
+unfolding cases firstHigh sumAll goodEntries initWord entryIn settingsIn entriesIn commandIn checkIn settingsBytes readFrame wrote written inSet many placed t1 t2 keepsModules keepsMain largestMode slot inTurn felt hits due overAt overLimits asked breaksTiming inHold overLimit refusals judge accept carry lengthened opened followed arrive decided judged taken byteStep moved releases watched timed tickStep step run after pulsesIn goodProfile allGood runInRange inRange onlyListed unlistedZero keepsTiming keepsProfile zeroRun goodSize goodPartial stateOf frameOf boxOf zeros unusedZero goodBox pulseOf saidOf makeOf filed callOf calls.given readoutOf readoutBytes sizeOf joined splitsAfter recordsAfter tailWithin kept around fromStart content storedRound goodRing goodPart withPart placeAnswer readyAnswer readoutAnswer roomFor pushedRing pushedPart pushed pushedBuf readOut readBytes onward given
 computed =
     record {
       claimed = refl;

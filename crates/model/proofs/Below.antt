@@ -35,6 +35,10 @@ pub none-below : (n : ℕ) (f : ℕ → Bool) → someBelow n f ≡ false → (i
 none-below zero f e i h = absurd (omega arith)
 none-below (suc n) f e i h = let p = neither (someBelow n f) (f n) e in up-to n (none-below n f (p .0)) (p .1) i h
 
+pub no-below : (n : ℕ) (f : ℕ → Bool) → ((i : ℕ) → i < n → f i ≡ false) → someBelow n f ≡ false
+no-below zero f h = refl
+no-below (suc n) f h = rw (no-below n f (λ i l. h i (omega arith)), h n (omega arith))
+
 -- a number at which it holds
 pub some-below : (n : ℕ) (f : ℕ → Bool) → someBelow n f ≡ true → (i : ℕ) × (i < n) × (f i ≡ true)
 some-below zero f e = absurd (false≢true e)

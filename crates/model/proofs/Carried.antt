@@ -1,7 +1,7 @@
 -- A decided command leaves a good core good. Assumes nothing.
 use Prim.Native.Nat.{ℕ, _≤_, _<_}
 use mathlib.Core.Bool.{Bool, true, false, cond}
-use mathlib.Core.Path.{_≡_}
+use mathlib.Core.Path.{_≡_, refl}
 use mathlib.Core.List.{List}
 use native.Mathlib.Omega.{arith}
 use lib.Dec.{ltb}
@@ -20,15 +20,14 @@ use Rattle.model.specs.Timing.{t1, initTiming, updateTiming}
 use Rattle.model.specs.State.{isRunning}
 use Rattle.model.specs.Judgement.{asked, breaksTiming, overLimit, judge}
 use Rattle.model.specs.Effects.{fed, withRun, accept, carry}
-use Rattle.model.specs.Good.{fits}
-use Rattle.model.proofs.Tests.{_and_}
-use Rattle.model.proofs.GoodRuns.{GoodList, list-facts, run-good}
-use Rattle.model.proofs.GoodStates.{GoodCore, running, resting, by-running}
-use Rattle.model.proofs.Settings.{placed-fits}
+use Rattle.model.proofs.Tests.{_and_, not-both}
+use Rattle.model.proofs.GoodRuns.{GoodList, list-facts}
+use Rattle.model.proofs.GoodStates.{GoodCore}
+use Rattle.model.proofs.Settings.{Fits, placed-fits}
 use Rattle.model.proofs.Accepted.{accepted}
 use Rattle.model.proofs.Cases.{carry-cases}
 use Rattle.model.proofs.Runs.{fed-run, waited-run, started-run}
-use Rattle.model.proofs.Resting.{still-zero, fed-zero, trip-core}
+use Rattle.model.proofs.Resting.{fed-zero, rest-core, trip-core}
 
 -- an Init's two channel sets are bytes
 abbrev pub Bytes : Command → Type 0
@@ -47,9 +46,13 @@ module _ (p : Profile) (fed-in : 0 < p .watchdog) (clock : ℕ) (m : Core) where
   -- with the watchdog fed
   fed-core : GoodCore p clock m → GoodCore p clock (withRun m (fed (m .run)))
   fed-core g =
-      let n : Core = withRun m (fed (m .run)) in
-      let run = by-running p clock n (λ e. fed-run fed-in (running g e)) (λ e. fed-zero (m .run) (resting g e)) in
-      record { holda = g .holda; holdb = g .holdb; state = g .state; run = run }
+      record {
+        holda = g .holda;
+        holdb = g .holdb;
+        state = g .state;
+        running = λ e. fed-run fed-in (g .running e);
+        resting = λ e. fed-zero (m .run) (g .resting e);
+      }
 
   -- an accepted Init, Update and Single
   init-core : (k : ℕ) (v : Init) → Bytes (init v) → judge p m k (init v) ≡ 0 → GoodCore p clock (accept clock m (init v) .core)
@@ -59,7 +62,13 @@ module _ (p : Profile) (fed-in : 0 < p .watchdog) (clock : ℕ) (m : Core) where
       let l : GoodList p v =
       list-facts p v (a .values and le-leb (v .stim) 255 (b .0) and le-leb (v .lf) 255 (b .1)) (not-false (initTiming v) (a .timing))
       (le-leb (p .shortest) (t1 (v .main)) (ltb-false (t1 (v .main)) (p .shortest) (a .no-limit))) in
-      record { holda = omega arith; holdb = omega arith; state = omega arith; run = run-good (started-run clock fed-in l) }
+      record {
+        holda = omega arith;
+        holdb = omega arith;
+        state = omega arith;
+        running = λ e. started-run clock fed-in l;
+        resting = λ e. not-both refl e;
+      }
 
   update-core : (k count : ℕ) (entries : List Setting) → judge p m k (update count entries) ≡ 0 → GoodCore p clock m
       → GoodCore p clock (accept clock m (update count entries) .core)
@@ -67,10 +76,16 @@ module _ (p : Profile) (fed-in : 0 < p .watchdog) (clock : ℕ) (m : Core) where
   update-core k count entries e g =
       let a = accepted p m k (update count entries) e in
       let r : isRunning m ≡ true = not-false (isRunning m) (a .has-list) in
-      let f : fits p (m .run .list) (asked m (update count entries)) ≡ true =
+      let f : Fits p (m .run .list) (asked m (update count entries)) =
       placed-fits p (m .run .list) entries count (both (goodCount count) (goodEntries entries count) (a .values) .1)
       (not-false (updateTiming (m .run .list) (asked m (update count entries))) (a .timing)) (a .no-limit) in
-      record { holda = g .holda; holdb = g .holdb; state = g .state; run = rw r (run-good (waited-run fed-in f (running g r))) }
+      record {
+        holda = g .holda;
+        holdb = g .holdb;
+        state = g .state;
+        running = λ e. waited-run fed-in f (g .running e);
+        resting = λ e. not-both r e;
+      }
 
   set-hold : (b : Bool) (hold : ℕ) → hold ≤ 15 → (cond b 15 hold ≤ 15) × (cond b hold 15 ≤ 15)
   set-hold true hold h = (omega arith, h)
@@ -81,14 +96,20 @@ module _ (p : Profile) (fed-in : 0 < p .watchdog) (clock : ℕ) (m : Core) where
   single-core v g =
       let f = fed-core g in
       let a : Bool = ltb (v .channel) 4 in
-      record { holda = set-hold a (m .holda) (g .holda) .0; holdb = set-hold a (m .holdb) (g .holdb) .1; state = f .state; run = f .run }
+      record {
+        holda = set-hold a (m .holda) (g .holda) .0;
+        holdb = set-hold a (m .holdb) (g .holdb) .1;
+        state = f .state;
+        running = f .running;
+        resting = f .resting;
+      }
 
   -- an accepted command
   accept-core : (k : ℕ) (c : Command) → Bytes c → GoodCore p clock m → judge p m k c ≡ 0 → GoodCore p clock (accept clock m c .core)
   unfolding accept
   accept-core k (init v) b g e = init-core k v b e
   accept-core k (update count entries) b g e = update-core k count entries e g
-  accept-core k stop b g e = record { holda = omega arith; holdb = omega arith; state = omega arith; run = still-zero }
+  accept-core k stop b g e = rest-core p clock (omega arith) (omega arith) (omega arith) refl
   accept-core k (single v) b g e = single-core v g
 
   -- a decided command

@@ -25,7 +25,7 @@ use Rattle.model.specs.Arrival.{Arrival, Arrival.stray, Arrival.alone, A
 use Rattle.model.specs.Ticks.{moved, aged, releases, timed}
 use Rattle.model.specs.Machine.{Call, Call.byte, Call.tick, step}
 use Rattle.model.specs.Claims.{pulseAt}
-use Rattle.model.proofs.GoodStates.{GoodCore, GoodState, core-facts, running}
+use Rattle.model.proofs.GoodStates.{GoodCore, GoodState}
 use Rattle.model.proofs.Accepted.{accepted}
 use Rattle.model.proofs.Cases.{carry-cases, timed-cases, tick-cases}
 use Rattle.model.proofs.Places.{due-within, two-pulses}
@@ -81,7 +81,7 @@ timed-releases : (p : Profile) (clock : ℕ) (m : Core) → GoodCore p clock m �
 unfolding moved
 timed-releases p clock m g =
     timed-cases (λ d. Releases (d .records)) p (clock + 1) (aged m) (λ e. bare nothing) (λ e w. bare (a-trip (clock + 1) 2))
-    (λ e w. rw e (releases-due (clock + 1) (moved (m .run)) (running g e .list .modules)))
+    (λ e w. rw e (releases-due (clock + 1) (moved (m .run)) (g .running e .list .modules)))
 
 -- ---- any call
 
@@ -89,7 +89,7 @@ pub step-releases : (p : Profile) (s : State) (c : Call) → GoodState p s → R
 unfolding step byteStep
 step-releases p s (byte n) g = taken-releases p s (arrive (s .core) (s .partial) n)
 step-releases p s tick g =
-    tick-cases (λ r. Releases (r .records)) p s (bare nothing) (λ h. timed-releases p (s .clock) (s .core) (core-facts (g .core)))
+    tick-cases (λ r. Releases (r .records)) p s (bare nothing) (λ h. timed-releases p (s .clock) (s .core) (g .core))
 
 -- one record or none
 one-or-none : (b : Bool) (x : Record) → length (cond b (x ∷ []) []) ≤ 1

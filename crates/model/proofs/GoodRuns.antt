@@ -1,10 +1,10 @@
 -- What it means that a running list is good, fact by fact. Assumes nothing.
 use Prim.Native.Nat.{ℕ, _≤_, _<_}
-use mathlib.Core.Bool.{true, not, _&&_, _||_}
+use mathlib.Core.Bool.{true, not, _&&_}
 use mathlib.Core.Path.{_≡_}
 use mathlib.Core.List.{[], _∷_}
 use native.Mathlib.Omega.{arith}
-use lib.Dec.{leb, ltb, eqb}
+use lib.Dec.{leb, eqb}
 use borrow.Author.Tests.{leb-true, ltb-true, eqb-false, not-true, le-leb, lt-ltb, ne-eqb}
 use Rattle.commands.specs.declared.Init.{Init}
 use Rattle.commands.specs.Ranges.{within}
@@ -12,9 +12,11 @@ use Rattle.commands.specs.Commands.{goodInit}
 use Rattle.commands.proofs.Tests.{both}
 use Rattle.model.specs.declared.Profile.{Profile}
 use Rattle.model.specs.declared.Run.{Run}
-use Rattle.model.specs.Timing.{t1, keepsModules, keepsMain, initTiming}
-use Rattle.model.specs.Good.{goodList, allZero, fits, goodRun}
+use Rattle.model.specs.Timing.{t1, keepsModules, keepsMain, initTiming, updateTiming}
+use Rattle.model.specs.Profiles.{overLimits}
+use Rattle.model.specs.Good.{goodList, allGood, goodWaits, runInRange, onlyListed, unlistedZero, keepsTiming, keepsShortest, keepsProfile, positionBelow, cycleNotAbove, watchBelow}
 use Rattle.model.proofs.Tests.{_and_, each}
+use Rattle.model.proofs.Settings.{Fits}
 
 -- a number in its range
 pub record Within (low x high : ℕ) : Type 0 where
@@ -43,10 +45,9 @@ pub record GoodList (p : Profile) (v : Init) : Type 0 where
 -- a running list with its settings and its waiting update
 pub record GoodRun (p : Profile) (clock : ℕ) (r : Run) : Type 0 where
   pub list : GoodList p (r .list)
-  pub settings : fits p (r .list) (r .settings) ≡ true
-  pub waiting : fits p (r .list) (r .waiting) ≡ true
-  pub waits : r .waits ≤ 1
-  pub none-waits : eqb (r .waits) 1 || allZero (r .waiting) ≡ true
+  pub settings : Fits p (r .list) (r .settings)
+  pub waiting : Fits p (r .list) (r .waiting)
+  pub waits : goodWaits (r .waits) (r .waiting) ≡ true
   pub position : r .position < t1 (r .list .main)
   pub cycle : r .cycle ≤ clock
   pub watch : r .watch < p .watchdog
@@ -71,49 +72,57 @@ module _ (p : Profile) (v : Init) where
         shortest = leb-true (p .shortest) (t1 (v .main)) g;
       }
 
-  list-good : GoodList p v → goodList v && initTiming v && leb (p .shortest) (t1 (v .main)) ≡ true
+  pub list-good : GoodList p v → goodList v ≡ true
   list-good g =
       let some : not (eqb (v .stim) 0) ≡ true = rw (ne-eqb (v .stim) 0 (omega arith)) in
       let init : goodInit v ≡ true = le-leb (v .factor) 7 (g .factor) and some and range-in (g .group) and range-in (g .main) in
-      let list : goodList v ≡ true = init and le-leb (v .stim) 255 (g .stim .most) and le-leb (v .lf) 255 (g .lf) in
-      list and (g .modules and g .once) and le-leb (p .shortest) (t1 (v .main)) (g .shortest)
+      init and le-leb (v .stim) 255 (g .stim .most) and le-leb (v .lf) 255 (g .lf)
 
 -- the run's tests
 module _ {p : Profile} {clock : ℕ} {r : Run} where
-  pub run-facts : goodRun p clock r ≡ true → GoodRun p clock r
-  unfolding goodRun
-  run-facts e =
-      let t =
-      each (goodList (r .list))
-      (initTiming (r .list)
-      ∷ leb (p .shortest) (t1 (r .list .main))
-      ∷ fits p (r .list) (r .settings)
-      ∷ fits p (r .list) (r .waiting)
-      ∷ leb (r .waits) 1
-      ∷ (eqb (r .waits) 1 || allZero (r .waiting))
-      ∷ ltb (r .position) (t1 (r .list .main))
-      ∷ leb (r .cycle) clock
-      ∷ ltb (r .watch) (p .watchdog)
-      ∷ []) e in
+  pub run-facts : runInRange r ≡ true → unlistedZero r ≡ true → keepsTiming r && keepsProfile p r ≡ true
+      → positionBelow r ≡ true → cycleNotAbove clock r ≡ true → watchBelow p r ≡ true → GoodRun p clock r
+  unfolding runInRange unlistedZero keepsTiming keepsProfile
+  run-facts e f g position cycle watch =
+      let range = each (goodList (r .list)) (allGood (r .settings) ∷ allGood (r .waiting) ∷ goodWaits (r .waits) (r .waiting) ∷ []) e in
+      let unlisted = both (onlyListed (r .list .stim) (r .settings)) (onlyListed (r .list .stim) (r .waiting)) f in
+      let rules = both (keepsTiming r) (keepsProfile p r) g in
+      let times = each (initTiming (r .list)) (updateTiming (r .list) (r .settings) ∷ updateTiming (r .list) (r .waiting) ∷ []) (rules .0) in
+      let limits =
+      each (keepsShortest p (r .list)) (not (overLimits p (r .settings)) ∷ not (overLimits p (r .waiting)) ∷ []) (rules .1) in
       record {
-        list = list-facts p (r .list) (t 0) (t 1) (t 2);
-        settings = t 3;
-        waiting = t 4;
-        waits = leb-true (r .waits) 1 (t 5);
-        none-waits = t 6;
-        position = ltb-true (r .position) (t1 (r .list .main)) (t 7);
-        cycle = leb-true (r .cycle) clock (t 8);
-        watch = ltb-true (r .watch) (p .watchdog) (t 9);
+        list = list-facts p (r .list) (range 0) (times 0) (limits 0);
+        settings = record { values = range 1; unlisted = unlisted .0; timing = times 1; no-limit = not-true _ (limits 1) };
+        waiting = record { values = range 2; unlisted = unlisted .1; timing = times 2; no-limit = not-true _ (limits 2) };
+        waits = range 3;
+        position = ltb-true (r .position) (t1 (r .list .main)) position;
+        cycle = leb-true (r .cycle) clock cycle;
+        watch = ltb-true (r .watch) (p .watchdog) watch;
       }
 
-  pub run-good : GoodRun p clock r → goodRun p clock r ≡ true
-  unfolding goodRun
-  run-good g =
-      list-good p (r .list) (g .list)
-      and g .settings
-      and g .waiting
-      and le-leb (r .waits) 1 (g .waits)
-      and g .none-waits
-      and lt-ltb (r .position) (t1 (r .list .main)) (g .position)
-      and le-leb (r .cycle) clock (g .cycle)
-      and lt-ltb (r .watch) (p .watchdog) (g .watch)
+  module _ (g : GoodRun p clock r) where
+    pub run-range : runInRange r ≡ true
+    unfolding runInRange
+    run-range = list-good p (r .list) (g .list) and g .settings .values and g .waiting .values and g .waits
+
+    pub run-unlisted : unlistedZero r ≡ true
+    unfolding unlistedZero
+    run-unlisted = g .settings .unlisted and g .waiting .unlisted
+
+    pub run-rules : keepsTiming r && keepsProfile p r ≡ true
+    unfolding keepsTiming keepsProfile
+    run-rules =
+        let list = g .list in
+        let first : not (overLimits p (r .settings)) ≡ true = rw (g .settings .no-limit) in
+        let second : not (overLimits p (r .waiting)) ≡ true = rw (g .waiting .no-limit) in
+        (list .modules and list .once and g .settings .timing and g .waiting .timing)
+        and (le-leb (p .shortest) (t1 (r .list .main)) (list .shortest) and first and second)
+
+    pub run-position : positionBelow r ≡ true
+    run-position = lt-ltb (r .position) (t1 (r .list .main)) (g .position)
+
+    pub run-cycle : cycleNotAbove clock r ≡ true
+    run-cycle = le-leb (r .cycle) clock (g .cycle)
+
+    pub run-watch : watchBelow p r ≡ true
+    run-watch = lt-ltb (r .watch) (p .watchdog) (g .watch)

@@ -13,7 +13,7 @@ use Rattle.model.specs.Channels.{inSet, many, channels}
 use Rattle.model.specs.State.{isRunning}
 use Rattle.model.proofs.Below.{each-below}
 use Rattle.model.proofs.GoodRuns.{Within, in-range}
-use Rattle.model.proofs.GoodStates.{GoodCore, running}
+use Rattle.model.proofs.GoodStates.{GoodCore}
 
 -- a byte that is not 0 lists one to eight channels
 abbrev lists : ℕ → Bool
@@ -33,4 +33,4 @@ some-listed stim w =
 -- a list that runs has channels
 pub running-channels : {p : Profile} {clock : ℕ} {m : Core} → GoodCore p clock m → isRunning m ≡ true
     → Within 1 (channels (m .run .list .stim)) 8
-running-channels {m = m} g e = some-listed (m .run .list .stim) (running g e .list .stim)
+running-channels {m = m} g e = some-listed (m .run .list .stim) (g .running e .list .stim)

@@ -17,10 +17,9 @@ use Rattle.model.specs.Timing.{t1}
 use Rattle.model.specs.Profiles.{goodLimits, goodProfile}
 use Rattle.model.specs.Effects.{fed, started, waited}
 use Rattle.model.specs.Ticks.{turned, moved}
-use Rattle.model.specs.Good.{fits}
 use Rattle.model.proofs.Tests.{either-way}
 use Rattle.model.proofs.GoodRuns.{in-range, GoodList, GoodRun}
-use Rattle.model.proofs.Settings.{silence-fits}
+use Rattle.model.proofs.Settings.{Fits, silence-fits}
 
 -- a t1 is some tenths
 t1-pos : (main : ℕ) → 0 < t1 main
@@ -43,22 +42,20 @@ module _ {p : Profile} {clock : ℕ} {r : Run} where
         settings = g .settings;
         waiting = g .waiting;
         waits = g .waits;
-        none-waits = g .none-waits;
         position = g .position;
         cycle = g .cycle;
         watch = w;
       }
 
   -- with another waiting update
-  pub waited-run : {settings : List Setting} → 0 < p .watchdog → fits p (r .list) settings ≡ true → GoodRun p clock r
+  pub waited-run : {settings : List Setting} → 0 < p .watchdog → Fits p (r .list) settings → GoodRun p clock r
       → GoodRun p clock (waited r settings)
   waited-run w f g =
       record {
         list = g .list;
         settings = g .settings;
         waiting = f;
-        waits = omega arith;
-        none-waits = refl;
+        waits = refl;
         position = g .position;
         cycle = g .cycle;
         watch = w;
@@ -72,8 +69,7 @@ module _ {p : Profile} {clock : ℕ} {r : Run} where
         list = g .list;
         settings = either-way (eqb (r .waits) 1) (λ e. rw e (g .waiting)) (λ e. rw e (g .settings));
         waiting = silence-fits p (r .list) (g .list .once);
-        waits = omega arith;
-        none-waits = refl;
+        waits = refl;
         position = t1-pos (r .list .main);
         cycle = omega arith;
         watch = w;
@@ -84,7 +80,6 @@ module _ {p : Profile} {clock : ℕ} {r : Run} where
         settings = g .settings;
         waiting = g .waiting;
         waits = g .waits;
-        none-waits = g .none-waits;
         position = f refl;
         cycle = omega arith;
         watch = w;
@@ -107,8 +102,7 @@ started-run {p} clock {v} w g =
       list = g;
       settings = quiet;
       waiting = quiet;
-      waits = omega arith;
-      none-waits = refl;
+      waits = refl;
       position = t1-pos (v .main);
       cycle = omega arith;
       watch = w;

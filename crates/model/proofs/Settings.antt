@@ -16,9 +16,9 @@ use Rattle.model.specs.declared.Profile.{Profile}
 use Rattle.model.specs.Channels.{inSet, many, silence, placed}
 use Rattle.model.specs.Timing.{keepsMain, largestMode, updateTiming}
 use Rattle.model.specs.Profiles.{overAt, overLimits}
-use Rattle.model.specs.Good.{goodAt, allZero, settingFits, fits}
+use Rattle.model.specs.Good.{allGood, allZero, onlyListed}
 use Rattle.model.proofs.Tests.{_and_, either-way}
-use Rattle.model.proofs.Below.{each-below, all-below, none-below, most-zero, row-at}
+use Rattle.model.proofs.Below.{each-below, all-below, no-below, most-zero, row-at}
 
 -- a setting whose variables sum to 0 is good
 zero-good : (x : Setting) → isZero x ≡ true → goodSetting x ≡ true
@@ -27,14 +27,10 @@ zero-good x e =
     let w : eqb (x .width) 0 || within 10 (x .width) 500 ≡ true = rw (eq-eqb (x .width) 0 (omega arith)) in
     le-leb (x .mode) 2 (omega arith) and (w and le-leb (x .current) 127 (omega arith))
 
--- a zero setting is over no limit, and fits
+-- a zero setting is over no limit
 zero-under : (p : Profile) (i : ℕ) → overAt p i noSetting ≡ false
 unfolding overAt
 zero-under p i = rw (leb·suc-zero (getD (p .currents) i 0), leb·suc-zero (getD (p .widths) i 0), leb·suc-zero (p .charge))
-
-zero-fits : (p : Profile) (stim i : ℕ) → settingFits p stim i noSetting ≡ true
-unfolding settingFits goodAt
-zero-fits p stim i = rw (zero-under p i, or-true (inSet stim i))
 
 -- a setting whose variables sum to 0 has none
 zero-is : (x : Setting) → isZero x ≡ true → x ≡ noSetting
@@ -48,22 +44,36 @@ zero-is x e =
     setting : ℕ → ℕ → ℕ → Setting
     setting mode width current = record { mode = mode; width = width; current = current }
 
--- settings that are all zero fit a list that keeps its timing rule with n = 1
-pub zeros-fit : (p : Profile) (v : Init) (settings : List Setting) → keepsMain v 1 ≡ true → allZero settings ≡ true → fits p v settings ≡ true
-unfolding fits largestMode
-zeros-fit p v settings e z =
-    let same : (i : ℕ) → i < 8 → getD settings i noSetting ≡ noSetting = λ i h. zero-is (getD settings i noSetting) (each-below 8 (λ i. isZero (getD settings i noSetting)) z i h) in
-    all-below 8 (λ i. settingFits p (v .stim) i (getD settings i noSetting)) (λ i h. rw (same i h) (zero-fits p (v .stim) i))
-    and rw (most-zero 8 (λ i. getD settings i noSetting .mode) (λ i h. ap (λ (x : Setting). x .mode) (same i h))) e
+-- settings that a list may have: good values, zero where not listed, in time, over no limit
+pub record Fits (p : Profile) (v : Init) (settings : List Setting) : Type 0 where
+  pub values : allGood settings ≡ true
+  pub unlisted : onlyListed (v .stim) settings ≡ true
+  pub timing : updateTiming v settings ≡ true
+  pub no-limit : overLimits p settings ≡ false
 
-pub silence-fits : (p : Profile) (v : Init) → keepsMain v 1 ≡ true → fits p v silence ≡ true
-silence-fits p v e = zeros-fit p v silence e refl
+-- settings that are all zero, of any list
+module _ (settings : List Setting) (z : allZero settings ≡ true) where
+  zeros : (i : ℕ) → i < 8 → getD settings i noSetting ≡ noSetting
+  zeros i h = zero-is (getD settings i noSetting) (each-below 8 (λ i. isZero (getD settings i noSetting)) z i h)
 
--- settings over no limit, one by one
-under : (p : Profile) (settings : List Setting) → overLimits p settings ≡ false → (i : ℕ) → i < 8
-    → overAt p i (getD settings i noSetting) ≡ false
-unfolding overLimits
-under p settings = none-below 8 (λ i. overAt p i (getD settings i noSetting))
+  pub zeros-unlisted : (stim : ℕ) → onlyListed stim settings ≡ true
+  unfolding onlyListed
+  zeros-unlisted stim =
+      all-below 8 (λ i. inSet stim i || isZero (getD settings i noSetting)) (λ i h. rw (zeros i h, or-true (inSet stim i)))
+
+  -- they fit one that keeps its timing rule with n = 1
+  pub zeros-fit : (p : Profile) (v : Init) → keepsMain v 1 ≡ true → Fits p v settings
+  unfolding allGood overLimits largestMode
+  zeros-fit p v e =
+      record {
+        values = all-below 8 (λ i. goodSetting (getD settings i noSetting)) (λ i h. rw (zeros i h));
+        unlisted = zeros-unlisted (v .stim);
+        timing = rw (most-zero 8 (λ i. getD settings i noSetting .mode) (λ i h. ap (λ (x : Setting). x .mode) (zeros i h))) e;
+        no-limit = no-below 8 (λ i. overAt p i (getD settings i noSetting)) (λ i h. rw (zeros i h) (zero-under p i));
+      }
+
+pub silence-fits : (p : Profile) (v : Init) → keepsMain v 1 ≡ true → Fits p v silence
+silence-fits = zeros-fit silence refl
 
 -- each entry of a good Update is good, whether listed or past the count
 entry-good : (entries : List Setting) (count i : ℕ) → goodEntries entries count ≡ true → goodSetting (getD entries i noSetting) ≡ true
@@ -81,20 +91,24 @@ module _ (p : Profile) (v : Init) (entries : List Setting) (count : ℕ) where
   abbrev at : ℕ → Setting
   at i = cond (inSet (v .stim) i) (getD entries (many (v .stim) 0 i) noSetting) noSetting
 
-  -- at each channel
-  at-fits : goodEntries entries count ≡ true → (i : ℕ) → overAt p i (at i) ≡ false → settingFits p (v .stim) i (at i) ≡ true
-  unfolding settingFits goodAt
-  at-fits g i o =
-      either-way (inSet (v .stim) i)
-      (λ t. rw (o, t) (entry-good entries count (many (v .stim) 0 i) g and refl and refl))
-      (λ t. rw (o, t))
+  asked-at : (i : ℕ) → i < 8 → getD (placed (v .stim) entries) i noSetting ≡ at i
+  unfolding placed
+  asked-at = row-at 8 at noSetting
+
+  at-good : goodEntries entries count ≡ true → (i : ℕ) → goodSetting (at i) ≡ true
+  at-good g i = either-way (inSet (v .stim) i) (λ t. rw t (entry-good entries count (many (v .stim) 0 i) g)) (λ t. rw t)
+
+  at-unlisted : (i : ℕ) → inSet (v .stim) i || isZero (at i) ≡ true
+  at-unlisted i = either-way (inSet (v .stim) i) (λ t. rw t) (λ t. rw t)
 
   pub placed-fits : goodEntries entries count ≡ true → updateTiming v (placed (v .stim) entries) ≡ true
-      → overLimits p (placed (v .stim) entries) ≡ false → fits p v (placed (v .stim) entries) ≡ true
-  unfolding fits placed
+      → overLimits p (placed (v .stim) entries) ≡ false → Fits p v (placed (v .stim) entries)
+  unfolding allGood onlyListed
   placed-fits g t o =
-      all-below 8 (λ i. settingFits p (v .stim) i (getD (placed (v .stim) entries) i noSetting))
-      (λ i h.
-      let e : getD (placed (v .stim) entries) i noSetting ≡ at i = row-at 8 at noSetting i h in
-      rw e (at-fits g i (rw e at (under p (placed (v .stim) entries) o i h))))
-      and t
+      let x : ℕ → Setting = λ i. getD (placed (v .stim) entries) i noSetting in
+      record {
+        values = all-below 8 (λ i. goodSetting (x i)) (λ i h. rw (asked-at i h) (at-good g i));
+        unlisted = all-below 8 (λ i. inSet (v .stim) i || isZero (x i)) (λ i h. rw (asked-at i h) (at-unlisted i));
+        timing = t;
+        no-limit = o;
+      }

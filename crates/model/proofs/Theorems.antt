@@ -4,7 +4,6 @@ use mathlib.Core.Path.{_≡_, refl}
 use Rattle.model.specs.State.{fresh}
 use Rattle.model.specs.Good.{goodState}
 use Rattle.model.specs.Claims.{StepKeepsGood, AlwaysGood, Zeros, StepKeepsZeros, AlwaysZeros, QuietAtRest, CountsSkips, TwoPlaces, AtMostTwo}
-use Rattle.model.proofs.GoodRuns.{run-facts}
 use Rattle.model.proofs.GoodStates.{state-facts, state-good}
 use Rattle.model.proofs.Cases.{always}
 use Rattle.model.proofs.Runs.{watchdog-pos}
@@ -34,7 +33,7 @@ pub counts-skips : CountsSkips
 counts-skips = skips
 
 pub two-places : TwoPlaces
-two-places p now clock r g = two-pulses clock r (run-facts g .list .modules)
+two-places = two-pulses
 
 pub at-most-two : AtMostTwo
 at-most-two p s c g = few (step-releases p s c (state-facts g))

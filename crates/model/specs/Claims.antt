@@ -13,12 +13,13 @@ use Rattle.model.specs.declared.Profile.{Profile}
 use Rattle.model.specs.declared.Run.{Run}
 use Rattle.model.specs.Profiles.{goodProfile}
 use Rattle.model.specs.Channels.{inSet}
+use Rattle.model.specs.Timing.{keepsModules}
 use Rattle.model.specs.Slots.{inTurn, firstDue}
 use Rattle.model.specs.State.{State, isRunning, still, fresh}
 use Rattle.model.specs.Effects.{pulse}
 use Rattle.model.specs.Ticks.{releases}
 use Rattle.model.specs.Machine.{Call, Call.tick, step, after}
-use Rattle.model.specs.Good.{goodRun, goodState}
+use Rattle.model.specs.Good.{goodState}
 
 -- a call leaves a good state good, and so a box grown from a fresh one by any calls is good
 abbrev pub StepKeepsGood : Type 0
@@ -57,10 +58,10 @@ abbrev pub pulseAt : ℕ → Run → ℕ → List Record
 pulseAt clock r i =
     let x : Setting = getD (r .settings) i noSetting in cond (ltb i 8) (pulse clock i (x .width) (x .current) ∷ []) []
 
--- the pulses due in a good run are those of the first due channel of A and of B, in this order, and no more
+-- where the list keeps the first timing rule, the pulses due are those of the first due channel of A and of B, in this order, and no more
 abbrev pub TwoPlaces : Type 0
 TwoPlaces =
-    (p : Profile) (now clock : ℕ) (r : Run) → goodRun p now r ≡ true
+    (clock : ℕ) (r : Run) → keepsModules (r .list) ≡ true
     → releases clock r ≡ pulseAt clock r (firstDue r 0 4) ++ pulseAt clock r (firstDue r 4 4)
 
 -- a call releases at most two records

@@ -1,4 +1,5 @@
--- Document 01, "A box record is good if ..", but for its profile and its ring.
+-- Document 01, last paragraph of "The machine": "A box record is good if ..". Its words stand here in their order, each over its test, and
+-- `goodTests` lists the tests. `record/specs/Box` puts in front what a record has beside the machine: profile, ring, bytes not in use.
 use Prim.Native.Nat.{ℕ, suc, _%_}
 use mathlib.Core.Bool.{Bool, true, false, cond, not, _&&_, _||_}
 use mathlib.Core.List.{List, [], _∷_}
@@ -16,50 +17,76 @@ use Rattle.model.specs.declared.Core.{Core}
 use Rattle.model.specs.Below.{allBelow}
 use Rattle.model.specs.Channels.{inSet, channels}
 use Rattle.model.specs.Timing.{t1, initTiming, updateTiming}
-use Rattle.model.specs.Profiles.{overAt}
+use Rattle.model.specs.Profiles.{overLimits}
 use Rattle.model.specs.State.{State, byState, isRunning}
 use Rattle.model.specs.Ticks.{lastClock}
 
--- ---- a running list
+-- what is asked of a running box alone, and of a box not running
+abbrev pub ifRunning : Core → Bool → Bool
+ifRunning m test = cond (isRunning m) test true
 
--- Channel_Stim and Channel_Lf are bytes
+abbrev pub ifResting : Core → Bool → Bool
+ifResting m test = cond (isRunning m) true test
+
+-- ---- "each number is in its range here": what is not in use has the range 0 to 0
+
+-- each hold is 0 to 15, and the state is one of three
+abbrev pub coreInRange : Core → Bool
+coreInRange m = leb (m .holda) 15 && leb (m .holdb) 15 && leb (m .state) 2
+
+-- good values, and channel sets of one byte
 abbrev pub goodList : Init → Bool
 goodList v = goodInit v && leb (v .stim) 255 && leb (v .lf) 255
+
+-- settings for eight channels: good values, or zero throughout
+unfoldable pub allGood : List Setting → Bool
+allGood settings = allBelow 8 λ i. goodSetting (getD settings i noSetting)
 
 abbrev pub allZero : List Setting → Bool
 allZero settings = allBelow 8 λ i. isZero (getD settings i noSetting)
 
--- unlisted settings are zero
-unfoldable pub goodAt : ℕ → ℕ → Setting → Bool
-goodAt stim i x = goodSetting x && (inSet stim i || isZero x)
+-- an update waits, 1, or none does, 0, and the waiting settings are not in use
+abbrev pub goodWaits : ℕ → List Setting → Bool
+goodWaits waits waiting = leb waits 1 && (eqb waits 1 || allZero waiting)
 
--- and each keeps the profile
-unfoldable pub settingFits : Profile → ℕ → ℕ → Setting → Bool
-settingFits p stim i x = goodAt stim i x && not (overAt p i x)
+unfoldable pub runInRange : Run → Bool
+runInRange r = goodList (r .list) && allGood (r .settings) && allGood (r .waiting) && goodWaits (r .waits) (r .waiting)
 
-abbrev pub allFit : Profile → ℕ → List Setting → Bool
-allFit p stim settings = allBelow 8 λ i. settingFits p stim i (getD settings i noSetting)
+-- the ranges of position, cycle, watchdog count and partial frame are the later tests
+unfoldable pub inRange : State → Bool
+inRange s = leb (s .clock) lastClock && coreInRange (s .core) && ifRunning (s .core) (runInRange (s .core .run))
 
--- settings keep the profile and the timing rule of the list
-unfoldable pub fits : Profile → Init → List Setting → Bool
-fits p v settings = allFit p (v .stim) settings && updateTiming v settings
+-- ---- "unlisted settings are zero"
 
--- a running list with its settings and its waiting update keeps both timing rules and the profile, position is below t1, cycle not
--- above the clock, the watchdog count below the watchdog; waiting settings are zero while none wait
-unfoldable pub goodRun : Profile → ℕ → Run → Bool
-goodRun p clock r =
-    goodList (r .list)
-    && initTiming (r .list)
-    && leb (p .shortest) (t1 (r .list .main))
-    && fits p (r .list) (r .settings)
-    && fits p (r .list) (r .waiting)
-    && leb (r .waits) 1
-    && (eqb (r .waits) 1 || allZero (r .waiting))
-    && ltb (r .position) (t1 (r .list .main))
-    && leb (r .cycle) clock
-    && ltb (r .watch) (p .watchdog)
+unfoldable pub onlyListed : ℕ → List Setting → Bool
+onlyListed stim settings = allBelow 8 λ i. inSet stim i || isZero (getD settings i noSetting)
 
--- ---- a box not running
+unfoldable pub unlistedZero : Run → Bool
+unlistedZero r = onlyListed (r .list .stim) (r .settings) && onlyListed (r .list .stim) (r .waiting)
+
+-- ---- "a running list with its settings and its waiting update keeps both timing rules and the profile"
+
+unfoldable pub keepsTiming : Run → Bool
+keepsTiming r = initTiming (r .list) && updateTiming (r .list) (r .settings) && updateTiming (r .list) (r .waiting)
+
+abbrev pub keepsShortest : Profile → Init → Bool
+keepsShortest p v = leb (p .shortest) (t1 (v .main))
+
+unfoldable pub keepsProfile : Profile → Run → Bool
+keepsProfile p r = keepsShortest p (r .list) && not (overLimits p (r .settings)) && not (overLimits p (r .waiting))
+
+-- ---- "position is below t1, cycle not above the clock, the watchdog count below the watchdog"
+
+abbrev pub positionBelow : Run → Bool
+positionBelow r = ltb (r .position) (t1 (r .list .main))
+
+abbrev pub cycleNotAbove : ℕ → Run → Bool
+cycleNotAbove clock r = leb (r .cycle) clock
+
+abbrev pub watchBelow : Profile → Run → Bool
+watchBelow p r = ltb (r .watch) (p .watchdog)
+
+-- ---- "a box not running has the zeros named above"
 
 abbrev pub zeroList : Init → Bool
 zeroList v = eqb (v .factor) 0 && eqb (v .stim) 0 && eqb (v .lf) 0 && eqb (v .group) 0 && eqb (v .main) 0
@@ -74,32 +101,43 @@ zeroRun r =
     && eqb (r .cycle) 0
     && eqb (r .watch) 0
 
--- each hold is 0 to 15, and the state is one of three
-unfoldable pub goodCore : Profile → ℕ → Core → Bool
-goodCore p clock m =
-    leb (m .holda) 15 && leb (m .holdb) 15 && leb (m .state) 2 && cond (isRunning m) (goodRun p clock (m .run)) (zeroRun (m .run))
-
--- ---- the partial frame
+-- ---- "the partial frame is empty, length 0, or a high byte followed by low ones, shorter than its kept length"
 
 abbrev pub allLow : List ℕ → Bool
 allLow [] = true
 allLow (b ∷ bytes) = not (high b) && allLow bytes
 
--- That length is the frame's own; for Update it is the running list's, or 4 to 25 in steps of 3 when tripped, and no Update is open
--- when idle
+-- "That length is the frame's own; for Update it is the running list's, or 4 to 25 in steps of 3 when tripped, and no Update is open
+-- when idle"
 abbrev pub goodUpdateSize : Core → ℕ → Bool
-goodUpdateSize m size = byState (m .state) false (eqb size (sizeFor 1 (channels (m .run .list .stim)))) (within 4 size 25 && eqb (size % 3) 1)
+goodUpdateSize m n = byState (m .state) false (eqb n (sizeFor 1 (channels (m .run .list .stim)))) (within 4 n 25 && eqb (n % 3) 1)
 
 unfoldable pub goodSize : Core → ℕ → ℕ → Bool
-goodSize m k size = cond (eqb k 1) (goodUpdateSize m size) (eqb size (sizeFor k 1))
+goodSize m k n = cond (eqb k 1) (goodUpdateSize m n) (eqb n (sizeFor k 1))
 
--- the partial frame is empty, length 0, or a high byte followed by low ones, shorter than its kept length
 unfoldable pub goodPartial : Core → ℕ → List ℕ → Bool
-goodPartial m size [] = eqb size 0
-goodPartial m size (b ∷ bytes) = high b && allLow bytes && ltb (suc (length bytes)) size && goodSize m (identIn (b ∷ [])) size
+goodPartial m n [] = eqb n 0
+goodPartial m n (b ∷ bytes) = high b && allLow bytes && ltb (suc (length bytes)) n && goodSize m (identIn (b ∷ [])) n
 
--- ---- all of it
+-- ---- all of it, in this order
+
+abbrev pub goodTests : Profile → State → List Bool
+goodTests p s =
+    let m : Core = s .core in
+    let r : Run = s .core .run in
+    inRange s
+    ∷ unlistedZero r
+    ∷ ifRunning m (keepsTiming r && keepsProfile p r)
+    ∷ ifRunning m (positionBelow r)
+    ∷ ifRunning m (cycleNotAbove (s .clock) r)
+    ∷ ifRunning m (watchBelow p r)
+    ∷ ifResting m (zeroRun r)
+    ∷ goodPartial m (s .partial .size) (s .partial .bytes)
+    ∷ []
+
+abbrev pub allHold : List Bool → Bool
+allHold [] = true
+allHold (test ∷ tests) = test && allHold tests
 
 unfoldable pub goodState : Profile → State → Bool
-goodState p s =
-    leb (s .clock) lastClock && goodCore p (s .clock) (s .core) && goodPartial (s .core) (s .partial .size) (s .partial .bytes)
+goodState p s = allHold (goodTests p s)

@@ -25,7 +25,7 @@ row r = take (r .count) (r .first ∷ r .second ∷ [])
 -- the pulses among records
 unfoldable pub pulsesIn : List Record → List Record
 pulsesIn [] = []
-pulsesIn (Answer clock ident answer ∷ xs) = pulsesIn xs
+pulsesIn (Answer clock k answer ∷ xs) = pulsesIn xs
 pulsesIn (Pulse clock channel width current ∷ xs) = Pulse clock channel width current ∷ pulsesIn xs
 pulsesIn (Trip clock cause ∷ xs) = pulsesIn xs
 

@@ -1,24 +1,23 @@
 -- A good box and the state that it carries: one from the other, and back. Assumes nothing.
 use Prim.Native.Nat.{ℕ, _-_}
-use mathlib.Core.Bool.{true, _&&_}
-use mathlib.Core.Path.{_≡_, refl, ap}
+use mathlib.Core.Bool.{true}
+use mathlib.Core.Path.{_≡_, refl, ap, _∙_}
 use mathlib.Core.List.{List}
-use lib.Dec.{leb}
 use lib.ListN.{length, replicate}
 use lib.Seq.{take-at}
-use Rattle.commands.proofs.Tests.{both}
 use Rattle.trace.specs.declared.Ring.{Ring}
 use Rattle.trace.specs.Ring.{goodRing}
 use Rattle.model.specs.declared.Profile.{Profile}
 use Rattle.model.specs.Profiles.{goodProfile}
 use Rattle.model.specs.State.{State}
-use Rattle.model.specs.Ticks.{lastClock}
-use Rattle.model.specs.Good.{goodPartial, goodCore, goodState}
+use Rattle.model.specs.Good.{goodState}
+use Rattle.model.proofs.GoodStates.{state-facts}
 use Rattle.partial.specs.declared.PartialFrame.{PartialFrame}
 use Rattle.partial.specs.Partial.{frameOf}
 use Rattle.partial.proofs.Carries.{frame-back, short, frame-unused}
 use Rattle.record.specs.declared.Box.{Box}
 use Rattle.record.specs.Box.{stateOf, boxOf, goodBox}
+use Rattle.record.proofs.Joins.{box-parts}
 use Rattle.record.proofs.Facts.{box-facts}
 
 -- the record of a state carries that state
@@ -38,8 +37,7 @@ back b l g =
 
 -- the record of a good state is good
 pub carrier-good : (p : Profile) (g : Ring) (s : State) → goodProfile p ≡ true → goodRing g ≡ true → goodState p s ≡ true → goodBox (boxOf p g s) ≡ true
-unfolding goodBox boxOf goodState
+unfolding boxOf
 carrier-good p g s hp hg hs =
-    let t = both (leb (s .clock) lastClock && goodCore p (s .clock) (s .core)) (goodPartial (s .core) (s .partial .size) (s .partial .bytes)) hs in
-    let u = frame-unused (s .partial) (short (s .core) (s .partial .size) (s .partial .bytes) (t .1)) in
-    rw (hp, hg, u, carries p g s) hs
+    let u = frame-unused (s .partial) (short (s .core) (s .partial .size) (s .partial .bytes) (state-facts hs .partial)) in
+    box-parts (boxOf p g s) ∙ rw (hp, hg, u, carries p g s) hs

@@ -12,8 +12,8 @@ ghost use Rattle.commands.specs.Commands.{noSetting};
 ghost use Rattle.model.specs.Below.{allBelow};
 ghost use Rattle.model.specs.State.{isRunning};
 ghost use Rattle.model.specs.Timing.{initTiming};
-ghost use Rattle.running.specs.Waiting.{waitingFits};
-ghost use Rattle.model.specs.Good.{goodList, allZero, goodAt, fits, goodRun, zeroList, zeroRun, goodCore};
+ghost use Rattle.model.specs.Good.{goodList, allZero, zeroList, zeroRun};
+ghost use Rattle.running.specs.Core.{goodAt, fits, waitingFits, goodRun, goodCore};
 
 fn good_list(v: Init) -> bool
     ensures { λ r. ⌜ r ≡ goodList v ⌝ }

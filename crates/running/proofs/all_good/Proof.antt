@@ -6,8 +6,8 @@ use lib.ListN.{getD}
 use borrow.Author.Needs.{needs}
 use Rattle.commands.specs.Commands.{noSetting}
 use Rattle.model.specs.Below.{allBelow}
-use Rattle.model.specs.Good.{goodAt}
 use Rattle.model.proofs.Turns.{all-turn}
+use Rattle.running.specs.Core.{goodAt}
 use Rattle.running.proofs.all_good.Statement.{statement}
 use Rattle.running.proofs.all_good.Tie as tie
 

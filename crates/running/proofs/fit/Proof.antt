@@ -1,6 +1,6 @@
 use mathlib.Core.Path.{sym}
 use borrow.Author.Needs.{needs}
-use Rattle.running.proofs.Fits.{fits-apart}
+use Rattle.running.proofs.Fits.{fits-at}
 use Rattle.running.proofs.fit.Statement.{statement}
 use Rattle.running.proofs.fit.Tie as tie
 
@@ -16,7 +16,7 @@ update-timing-requires c κs = search needs
 returns : tie.Need-returns
 returns c =
     let a = c .before .before .before .args in
-    rw (c .before .before .all-good .ensures, c .before .over-limits .ensures, c .update-timing .ensures) (sym (fits-apart (a .p) (a .v) (a .settings)))
+    rw (c .before .before .all-good .ensures, c .before .over-limits .ensures, c .update-timing .ensures) (sym (fits-at (a .p) (a .v) (a .settings)))
 
 pub fit-spec : {M : Type 1} → statement M
 fit-spec =

@@ -1,5 +1,5 @@
 use borrow.Author.Needs.{needs}
-use Rattle.model.specs.Good.{goodAt}
+use Rattle.running.specs.Core.{goodAt}
 use Rattle.running.proofs.good_at.Statement.{statement}
 use Rattle.running.proofs.good_at.Tie as tie
 

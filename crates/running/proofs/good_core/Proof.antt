@@ -1,5 +1,5 @@
 use borrow.Author.Needs.{needs}
-use Rattle.model.specs.Good.{goodCore}
+use Rattle.running.specs.Core.{goodCore}
 use Rattle.running.proofs.good_core.Statement.{statement}
 use Rattle.running.proofs.good_core.Tie as tie
 

@@ -1,5 +1,5 @@
 use borrow.Author.Needs.{needs}
-use Rattle.running.proofs.Waits.{run-regroups}
+use Rattle.running.proofs.Waits.{run-waits}
 use Rattle.running.proofs.good_run.Statement.{statement}
 use Rattle.running.proofs.good_run.Tie as tie
 
@@ -29,7 +29,7 @@ returns c =
     let list = timing .before in
     let a = list .before .before .before .before .before .args in
     rw (list .before .main-period .ensures, list .good-list .ensures, timing .init-timing .ensures, first .fit .ensures)
-    (run-regroups (a .p) (a .clock) (a .r) (waiting .good-waiting .result) (waiting .good-waiting .ensures))
+    (run-waits (a .p) (a .clock) (a .r) (waiting .good-waiting .result) (waiting .good-waiting .ensures))
 
 pub good-run-spec : {M : Type 1} → statement M
 good-run-spec =
