@@ -1,8 +1,5 @@
--- What the definitions compute to: the cases, the example of two boxes, and a few calls that idle programs get wrong. Assumes nothing.
-use Prim.Native.Nat.{ℕ}
-use mathlib.Core.Path.{_≡_, refl}
-use mathlib.Core.List.{List, [], _∷_, map}
-use lib.ListN.{length}
+-- What the definitions compute to: the cases, and the example of two boxes. Assumes nothing.
+use mathlib.Core.Path.{refl}
 use Rattle.bits.specs.High.{firstHigh}
 use Rattle.commands.specs.Commands.{sumAll, goodEntries}
 use Rattle.frames.specs.Layout.{initWord, entryIn, settingsIn, entriesIn, commandIn, checkIn}
@@ -13,18 +10,16 @@ use Rattle.model.specs.Channels.{inSet, many, placed}
 use Rattle.model.specs.Timing.{t1, t2, keepsModules, keepsMain, largestMode}
 use Rattle.model.specs.Slots.{slot, inTurn, felt, hits, due}
 use Rattle.model.specs.Profiles.{NowhereLooser, goodProfile, overAt, overLimits}
-use Rattle.model.specs.State.{fresh}
 use Rattle.model.specs.Judgement.{asked, breaksTiming, inHold, overLimit, refusals, judge}
 use Rattle.model.specs.Effects.{accept, carry}
 use Rattle.model.specs.Arrival.{lengthened, opened, followed, arrive, decided, judged, taken, byteStep}
 use Rattle.model.specs.Ticks.{moved, releases, watched, timed, tickStep}
-use Rattle.model.specs.Machine.{Call, Call.byte, Call.tick, step, run, after}
+use Rattle.model.specs.Machine.{step, run, after}
 use Rattle.model.specs.Good.{allGood, runInRange, inRange, onlyListed, unlistedZero, keepsTiming, keepsProfile, zeroRun, goodSize, goodPartial}
 use Rattle.partial.specs.Partial.{frameOf, zeros, unusedZero}
 use Rattle.record.specs.Box.{stateOf, boxOf, goodBox}
 use Rattle.said.specs.Said.{pulseOf, saidOf}
 use Rattle.outcome.specs.Claims.{pulsesIn}
-use Rattle.trace.specs.declared.Record.the-variants.{Pulse}
 use Rattle.calls.specs.Making.{makeOf}
 use Rattle.calls.specs.Filed.{filed}
 use Rattle.calls.specs.Calls.{callOf}
@@ -36,31 +31,13 @@ use Rattle.trace.specs.Tail.{tailWithin, kept}
 use Rattle.trace.specs.Round.{around, fromStart, content, storedRound}
 use Rattle.trace.specs.Ring.{goodRing, goodPart, withPart, placeAnswer, readyAnswer, readoutAnswer, roomFor, pushedRing, pushedPart, pushed, pushedBuf, readOut, readBytes}
 use Rattle.demands.specs.OneBuffer.{onward, given}
-use Rattle.demands.specs.FreshBox.{sent, loosest}
+use Rattle.demands.specs.FreshBox.{loosest}
 use Rattle.demands.specs.Cases.{cases, Claim}
-use Rattle.demands.specs.History.{Spoken}
-use Rattle.demands.specs.Demand2.{documented, tailOf}
 use Rattle.demands.specs.Rejoining.{strict, Rejoins}
-
--- what a box with the loosest profile says, and a saying without reply and pulses
-abbrev pub heard : List Call → List Spoken
-heard cs = map documented (run loosest fresh cs)
-
-abbrev pub plain : ℕ → Spoken
-plain answer = record { answer = answer; reply = 0; pulses = [] }
 
 pub record Computed : Type 0 where
   pub claimed : Claim
   pub rejoining : NowhereLooser strict loosest → Rejoins
-  -- a tick is taken, and so is a second; a low byte is a stray
-  pub ticked : heard (tick ∷ tick ∷ []) ≡ plain 0 ∷ plain 0 ∷ []
-  pub strayed : heard (tick ∷ byte 0 ∷ []) ≡ plain 0 ∷ plain 2 ∷ []
-  -- a Single pulses
-  pub pulsed : heard (sent (0xE2 ∷ 0x21 ∷ 0x48 ∷ 0x78 ∷ []))
-      ≡ plain 1 ∷ plain 1 ∷ plain 1 ∷ record { answer = 0; reply = 0xC1; pulses = Pulse 0 3 200 120 ∷ [] } ∷ []
-  -- a Stop leaves a record of seven bytes
-  pub empty : tailOf loosest 32 [] ≡ []
-  pub stopped : length (tailOf loosest 32 (byte 0xC0 ∷ [])) ≡ 7
 
 pub computed : Computed
 unfolding cases firstHigh sumAll goodEntries initWord entryIn settingsIn entriesIn commandIn checkIn settingsBytes readFrame wrote written inSet many placed t1 t2 keepsModules keepsMain largestMode slot inTurn felt hits due overAt overLimits asked breaksTiming inHold overLimit refusals judge accept carry lengthened opened followed arrive decided judged taken byteStep moved releases watched timed tickStep step run after pulsesIn goodProfile allGood runInRange inRange onlyListed unlistedZero keepsTiming keepsProfile zeroRun goodSize goodPartial stateOf frameOf boxOf zeros unusedZero goodBox pulseOf saidOf makeOf filed callOf calls.given readoutOf readoutBytes sizeOf joined splitsAfter recordsAfter tailWithin kept around fromStart content storedRound goodRing goodPart withPart placeAnswer readyAnswer readoutAnswer roomFor pushedRing pushedPart pushed pushedBuf readOut readBytes onward given
@@ -68,11 +45,6 @@ computed =
     record {
       claimed = refl;
       rejoining = λ l. record { stricter = l; trips = refl; rejoins = refl; lax-runs = refl; strict-pulses = refl; lax-pulses = refl };
-      ticked = refl;
-      strayed = refl;
-      pulsed = refl;
-      empty = refl;
-      stopped = refl;
     }
 
 pub claim : Claim

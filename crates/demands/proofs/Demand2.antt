@@ -53,7 +53,7 @@ fresh-grown p capacity m bytes =
     }
 
 -- what holds over a whole history
-whole : (p : Profile) (h : History p) → Holds p (h .capacity) (start h) fresh [] (h .turns)
+pub whole : (p : Profile) (h : History p) → Holds p (h .capacity) (start h) fresh [] (h .turns)
 whole p h =
     let m = was-made p (h .capacity) (h .taken) in
     rw (m .box) (from (fresh-grown p (h .capacity) m (h .bytes)) (h .turns) (rw (m .box) at (h .proper)))

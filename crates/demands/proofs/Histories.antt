@@ -11,6 +11,7 @@ use Rattle.commands.specs.Ranges.{within}
 use Rattle.trace.specs.declared.Part.{Part}
 use Rattle.trace.specs.declared.Ring.{Ring}
 use Rattle.trace.specs.declared.Record.{Record}
+use Rattle.trace.specs.declared.Readout.{Readout}
 use Rattle.trace.specs.Rows.{splits}
 use Rattle.trace.specs.Tail.{tailBytes}
 use Rattle.trace.specs.Ring.{part, heldIn, held, readyAnswer}
@@ -37,7 +38,7 @@ use Rattle.calls.specs.Calls.{given, callOf}
 use Rattle.calls.specs.Readout.{readoutOf, readoutBytes}
 use Rattle.demands.specs.FreshBox.{trace}
 use Rattle.demands.specs.History.{Turn, Turn.call, Turn.readout, Kept, next, last, Proper, calls, Spoken, spokenBy, spoken}
-use Rattle.demands.specs.Demand2.{documented, NoneRefused, ReadsOut}
+use Rattle.demands.specs.Demand2.{documented, NoneRefused, Copied, copied, readTo}
 use Rattle.demands.proofs.Answers.{way, never}
 use Rattle.demands.proofs.Filed.{ready-placed, filed-ready, filed-capacity, filed-tail}
 
@@ -56,6 +57,10 @@ pub record Grown (p : Profile) (capacity : ℕ) (g : Ring) (s : State) (bytes : 
 
 -- ---- one turn
 
+-- a readout, by its two parts
+reported : {r s : Readout} {l k : List ℕ} → r ≡ s → l ≡ k → _≡_ {A = Copied} (record { report = r; output = l }) (record { report = s; output = k })
+reported e f = ap₂ (λ (r : Readout) (l : List ℕ). record { report = r; output = l }) e f
+
 module _ {p : Profile} {capacity : ℕ} {g : Ring} {s : State} {bytes : List ℕ} {xs : List Record} (f : Grown p capacity g s bytes xs)
     (buf : List ℕ) (at : Part) (l : Lent buf at (record { ring = g; bytes = bytes })) where
   good : goodBox (boxOf p g s) ≡ true
@@ -70,7 +75,7 @@ module _ {p : Profile} {capacity : ℕ} {g : Ring} {s : State} {bytes : List ℕ
   has-tail = ap (λ (b : List ℕ). heldIn b g) (l .1) ∙ f .tail
 
   -- a readout copies the tail, or finds no room for it
-  pub reads : (out : List ℕ) → ReadsOut (box p g s bytes) (tailBytes capacity xs) buf at out
+  pub reads : (out : List ℕ) → readTo (boxOf p g s) buf at out ≡ copied (tailBytes capacity xs) out
   unfolding readoutOf readoutBytes boxOf
   reads out =
       let n : ℕ = length (tailBytes capacity xs) in
@@ -79,19 +84,18 @@ module _ {p : Profile} {capacity : ℕ} {g : Ring} {s : State} {bytes : List ℕ
       (λ e.
       let short : length out < g .used = omega (arith, used, ltb-true (length out) n e) in
       let y = read-16 buf at g out ready short in
-      record { report = rw (good, e) (sym (y .0)); output = rw (good, e) (sym (y .1)) })
+      rw (good, e) (reported (sym (y .0)) (sym (y .1))))
       (λ e.
       let fits : g .used ≤ length out = omega (arith, used, ltb-false (length out) n e) in
       let y = read-held buf at g out ready fits in
-      record {
-        report = rw (good, e) (y .0 ∙ ap (λ (n : ℕ). record { answer = 0; used = n }) used);
-        output = rw (good, e) (y .1 ∙ ap₂ (λ (l : List ℕ) (n : ℕ). l ++ drop n out) has-tail used);
-      })
+      rw (good, e)
+      (reported (y .0 ∙ ap (λ (n : ℕ). record { answer = 0; used = n }) used)
+      (y .1 ∙ ap₂ (λ (l : List ℕ) (n : ℕ). l ++ drop n out) has-tail used)))
 
   read-taken : (out : List ℕ) → within 12 (readoutOf (boxOf p g s) buf at (length out) .answer) 14 ≡ false
   read-taken out =
-      rw (reads out .report)
-      (either-way (ltb (length out) (length (tailBytes capacity xs))) (λ e. rw e refl) (λ e. rw e refl))
+      ap (λ (r : Copied). within 12 (r .report .answer) 14) (reads out)
+      ∙ either-way (ltb (length out) (length (tailBytes capacity xs))) (λ e. rw e refl) (λ e. rw e refl)
 
   module _ (c : Call) where
     abbrev x : Result
@@ -106,7 +110,7 @@ module _ {p : Profile} {capacity : ℕ} {g : Ring} {s : State} {bytes : List ℕ
     gives = rw (good, ready) (ap (λ (y : State). given (boxOf p g s) buf at (step p y c)) (carries p g s))
 
     -- what it says, in its two places, is what the machine says
-    says : spokenBy (saidOf (step p s c)) ≡ documented (outcome (step p s c))
+    pub says : spokenBy (saidOf (step p s c)) ≡ documented (outcome (step p s c))
     unfolding saidOf
     says =
         ap (λ (l : List Record). record { answer = x .answer; reply = x .reply; pulses = l })

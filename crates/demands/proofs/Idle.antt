@@ -1,55 +1,82 @@
 -- Idle programs do not meet demand 2. Assumes nothing.
-use Prim.Native.Nat.{ℕ}
-use mathlib.Core.Bool.{true, false≢true}
-use mathlib.Core.Path.{_≡_, refl, ap, _∙_}
-use mathlib.Core.List.{List, [], _∷_}
+use Prim.Native.Nat.{ℕ, _≤_}
+use mathlib.Core.Path.{_≡_, refl, sym, ap, _∙_}
+use mathlib.Core.List.{List, [], _∷_, map}
 use native.Mathlib.Omega.{arith}
-use lib.ListN.{length}
-use Rattle.model.specs.Machine.{Call, Call.byte, Call.tick}
-use Rattle.demands.specs.FreshBox.{sent}
-use Rattle.demands.specs.History.{Spoken}
-use Rattle.demands.specs.Demand1.{leavesAll}
-use Rattle.demands.specs.Idle.{Program, Meets, Each, RefusesAll, RepeatsOne, DoesNothing, FeignsTheRest, ClaimsBytes, Excluded}
-use Rattle.demands.proofs.Computed.{plain, computed}
+use lib.Dec.{ltb}
+use lib.ListN.{length, replicate}
+use Rattle.model.specs.declared.Profile.{Profile}
+use Rattle.model.specs.State.{fresh}
+use Rattle.model.specs.Machine.{Call, Call.byte, Call.tick, outcome, step, after}
+use Rattle.model.proofs.Tests.{either-way}
+use Rattle.calls.specs.Making.{makeAnswer, makeOf}
+use Rattle.demands.specs.History.{Request, Request.act, acts, Spoken}
+use Rattle.demands.specs.Demand2.{documented, tailOf, Copied, copied}
+use Rattle.demands.specs.Program.{Program, Meets}
+use Rattle.demands.specs.Idle.{RefusesAll, RepeatsOne, NeverPulses, NeverRecords, DoesNothing, AllowsPulse, FeignsTheRest, ClaimsBytes, IdleExcluded}
+use Rattle.demands.proofs.Demand2.{was-made, fresh-grown}
+use Rattle.demands.proofs.FreshCalls.{ticks-0, strays-2, then-strays-2, then-goes-on-1, stop-files}
+use Rattle.demands.proofs.LeastPulse.{opening, least-pulses}
 
--- the first answer
-abbrev first : List Spoken → ℕ
-first [] = 0
-first (o ∷ os) = o .answer
+-- a readout that is answered 0 reports the tail's bytes
+copied-used : (tail out : List ℕ) → copied tail out .report .answer ≡ 0 → copied tail out .report .used ≡ length tail
+copied-used tail out =
+    either-way (ltb (length out) (length tail)) (λ e. rw e (λ z. absurd (omega arith))) (λ e. rw e (λ z. refl))
 
-module _ (x : Program) (m : Meets x) where
-  ticked : x .says (tick ∷ tick ∷ []) ≡ plain 0 ∷ plain 0 ∷ []
-  ticked = m .said (tick ∷ tick ∷ []) ∙ computed .ticked
+module _ (x : Program) (m : Meets x) (p : Profile) (capacity : ℕ) (made : makeAnswer p capacity ≡ 0) where
+  says : (rs : List Request) (c : Call) → x .says p capacity rs c ≡ documented (outcome (step p (after p fresh (acts rs)) c))
+  says rs c = rw made at (m .said p capacity rs c)
 
-  strayed : x .says (tick ∷ byte 0 ∷ []) ≡ plain 0 ∷ plain 2 ∷ []
-  strayed = m .said (tick ∷ byte 0 ∷ []) ∙ computed .strayed
+  reads : (rs : List Request) (out : List ℕ) → x .reads p capacity rs out ≡ copied (tailOf p capacity (acts rs)) out
+  reads rs out = rw made at (m .read p capacity rs out)
 
-  refusing : RefusesAll x → ⊥
-  refusing r =
-      let o : Each (λ o. leavesAll (o .answer) ≡ true) (plain 0 ∷ plain 0 ∷ []) = rw ticked at (r (tick ∷ tick ∷ [])) in
-      false≢true (o .0)
+  answers : (rs : List Request) (c : Call) → x .says p capacity rs c .answer ≡ step p (after p fresh (acts rs)) c .answer
+  answers rs c = ap (λ (o : Spoken). o .answer) (says rs c)
 
-  repeating : RepeatsOne x → ⊥
+  refusing : RefusesAll x p capacity → ⊥
+  unfolding after
+  refusing r = r [] tick (answers [] tick ∙ ticks-0 p)
+
+  repeating : RepeatsOne x p capacity → ⊥
+  unfolding after
   repeating r =
-      let o : Each (λ o. o .answer ≡ r .0) (plain 0 ∷ plain 2 ∷ []) = rw strayed at (r .1 (tick ∷ byte 0 ∷ [])) in
-      omega (arith, o .0, o .1 .0)
+      omega (arith, r .1 [] tick, answers [] tick, ticks-0 p, r .1 [] (byte 0), answers [] (byte 0), strays-2 p)
 
-  doing-nothing : DoesNothing x → ⊥
-  doing-nothing r =
-      let cs : List Call = sent (0xE2 ∷ 0x21 ∷ 0x48 ∷ 0x78 ∷ []) in
-      let o = rw (m .said cs ∙ computed .pulsed) at (r cs) in
-      omega (arith, ap length (o .1 .1 .1 .0))
+  never-pulsing : AllowsPulse p → NeverPulses x p capacity → ⊥
+  never-pulsing a r =
+      let rs : List Request = map act (opening p a) in
+      omega (arith, ap length (sym (r rs (byte 1)) ∙ ap (λ (o : Spoken). o .pulses) (says rs (byte 1)) ∙ least-pulses p a))
 
-  feigning : FeignsTheRest x → ⊥
+  never-recording : NeverRecords x p capacity → ⊥
+  unfolding makeOf
+  never-recording r =
+      let least : 16 ≤ capacity = fresh-grown p capacity (was-made p capacity made) [] .ring .least in
+      let stop : List Request = act (byte 0xC0) ∷ [] in
+      let e = reads stop (replicate 7 0) ∙ ap (λ (tail : List ℕ). copied tail (replicate 7 0)) (stop-files p capacity least) in
+      omega (arith, r stop (replicate 7 0), ap (λ (o : Copied). o .report .used) e)
+
+  doing-nothing : DoesNothing x p capacity → ⊥
+  doing-nothing r = never-recording (r .1)
+
+  feigning : FeignsTheRest x p capacity → ⊥
   feigning r =
-      let e : plain 0 ∷ [] ≡ plain 2 ∷ [] = rw (ticked, strayed) at (r tick (tick ∷ []) (byte 0 ∷ []) refl) in
-      omega (arith, ap first e)
+      let e = r tick (byte 0) (tick ∷ []) (byte 0x80 ∷ []) refl in
+      omega (arith, ap (λ (o : Spoken). o .answer) e, answers (act tick ∷ act tick ∷ []) (byte 0), then-strays-2 p, answers (act tick ∷ act (byte 0x80) ∷ []) (byte 0), then-goes-on-1 p)
 
-  claiming : ClaimsBytes x → ⊥
+  claiming : ClaimsBytes x p capacity → ⊥
   claiming r =
-      let none : length (x .reads []) ≡ 0 = ap length (m .read [] ∙ computed .empty) in
-      let seven : length (x .reads (byte 0xC0 ∷ [])) ≡ 7 = ap length (m .read (byte 0xC0 ∷ [])) ∙ computed .stopped in
-      omega (arith, r .1 [], r .1 (byte 0xC0 ∷ []))
+      let e = reads (r .behind) (r .out) in
+      let used = copied-used (tailOf p capacity (acts (r .behind))) (r .out) (ap (λ (o : Copied). o .report .answer) (sym e) ∙ r .done) in
+      r .made-up (ap (λ (o : Copied). o .report .used) e ∙ used)
 
-pub excluded : Excluded
-excluded = record { refusing = refusing; repeating = repeating; doing-nothing = doing-nothing; feigning = feigning; claiming = claiming }
+pub excluded : IdleExcluded
+excluded x m p capacity made =
+    record {
+      refusing = refusing x m p capacity made;
+      repeating = repeating x m p capacity made;
+      doing-nothing = doing-nothing x m p capacity made;
+      never-pulsing = never-pulsing x m p capacity made;
+      never-recording = never-recording x m p capacity made;
+      feigning = feigning x m p capacity made;
+      claiming = claiming x m p capacity made;
+    }

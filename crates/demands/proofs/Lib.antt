@@ -12,9 +12,13 @@ pub mod Demand1
 pub mod Histories
 pub mod Demand2
 pub mod OneBuffer
+pub mod Program
+pub mod Use
 pub mod Limits
 pub mod Parted
 pub mod Stricter
 pub mod Demand3
 pub mod Rejoining
+pub mod FreshCalls
+pub mod LeastPulse
 pub mod Idle

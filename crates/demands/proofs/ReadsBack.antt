@@ -54,20 +54,29 @@ init-back w v rest count n g t =
 
 -- ---- Single
 
-single-back : (v : Single) (k : ℕ) (rest : List ℕ) (count : ℕ)
-    → k < 32 → k ≡ check (single v) → goodSingle v ≡ true → goodCount count ≡ true
-    → readFrame (head 3 k ∷ entryBytes 4 (v .channel) (v .width) (v .current) ++ rest) count ≡ found (single v)
-single-back v k rest count hk e g t =
-    let low = entryBytes 4 (v .channel) (v .width) (v .current) in
-    let s = head 3 k ∷ low ++ rest in
-    let fits = single-fits v g in
-    let i : identIn s ≡ 3 = omega arith in
-    let kept : field (head 3 k) 0 5 ≡ k = omega arith in
-    let lows = entry-lows 4 _ _ _ (omega arith) fits (omega arith) in
-    let there = entry-there 4 _ _ _ (omega arith) fits s 1 rest refl in
-    reads-as s count (single v) (framed (head 3 k) low rest count t (omega arith) lows (rw i))
-    (single-here s count i ∙ ap (λ (x : Entry). single (record { channel = x .lead; width = x .width; current = x .current })) there)
-    (check-5 s (omega arith) ∙ kept ∙ e) g
+-- what stands in its bytes, and behind them
+abbrev singleBytes : Single → ℕ → List ℕ → List ℕ
+singleBytes v k rest = head 3 k ∷ entryBytes 4 (v .channel) (v .width) (v .current) ++ rest
+
+module _ (v : Single) (k : ℕ) (rest : List ℕ) (hk : k < 32) (g : goodSingle v ≡ true) where
+  pub single-there : (count : ℕ) → commandIn (singleBytes v k rest) count ≡ single v
+  single-there count =
+      let s = singleBytes v k rest in
+      let there = entry-there 4 _ _ _ (omega arith) (single-fits v g) s 1 rest refl in
+      single-here s count (omega arith) ∙ ap (λ (x : Entry). single (record { channel = x .lead; width = x .width; current = x .current })) there
+
+  pub single-check : checkIn (singleBytes v k rest) ≡ k
+  single-check =
+      let kept : field (head 3 k) 0 5 ≡ k = omega arith in
+      check-5 (singleBytes v k rest) (omega arith) ∙ kept
+
+  single-back : (count : ℕ) → k ≡ check (single v) → goodCount count ≡ true → readFrame (singleBytes v k rest) count ≡ found (single v)
+  single-back count e t =
+      let low = entryBytes 4 (v .channel) (v .width) (v .current) in
+      let i : identIn (singleBytes v k rest) ≡ 3 = omega arith in
+      let lows = entry-lows 4 _ _ _ (omega arith) (single-fits v g) (omega arith) in
+      reads-as (singleBytes v k rest) count (single v) (framed (head 3 k) low rest count t (omega arith) lows (rw i))
+      (single-there count) (single-check ∙ e) g
 
 -- ---- Update
 
@@ -110,7 +119,7 @@ frame-back stop held g count told rest =
     reads-as s count stop (framed (head 2 0) [] rest count told (omega arith) tt refl)
     (stop-here s count refl) (check-5 s (omega arith)) refl
 frame-back (single v) held g count told rest =
-    single-back v (check (single v)) rest count (mod-lt (v .channel + v .width + v .current) (omega arith)) refl g told
+    single-back v (check (single v)) rest (mod-lt (v .channel + v .width + v .current) (omega arith)) g count refl told
 
 pub reads-back : ReadsBack
 reads-back c held g count told out rest room =

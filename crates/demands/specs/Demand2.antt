@@ -8,17 +8,19 @@ use lib.Dec.{ltb}
 use lib.ListN.{length, drop}
 use Rattle.commands.specs.Ranges.{within}
 use Rattle.trace.specs.declared.Part.{Part}
+use Rattle.trace.specs.declared.Readout.{Readout}
 use Rattle.trace.specs.Tail.{tailBytes}
 use Rattle.trace.specs.Ring.{heldIn}
 use Rattle.model.specs.declared.Profile.{Profile}
 use Rattle.model.specs.State.{fresh}
 use Rattle.model.specs.Machine.{Call, Outcome, run, after}
+use Rattle.record.specs.declared.Box.{Box}
 use Rattle.record.specs.Box.{stateOf}
 use Rattle.outcome.specs.Claims.{pulsesIn}
 use Rattle.calls.specs.Calls.{callOf}
 use Rattle.calls.specs.Readout.{readoutOf, readoutBytes}
 use Rattle.demands.specs.FreshBox.{trace}
-use Rattle.demands.specs.History.{Turn, Turn.call, Turn.readout, Kept, next, last, LentWith, History, start, calls, Spoken, spoken}
+use Rattle.demands.specs.History.{Turn, Turn.call, Turn.readout, Kept, next, last, LentTo, History, start, calls, Spoken, spoken}
 
 -- as document 01's machine says it
 abbrev pub documented : Outcome → Spoken
@@ -37,11 +39,21 @@ unfoldable pub NoneRefused : Kept → List Turn → Type 0
 NoneRefused h [] = Unit
 NoneRefused h (t ∷ ts) = (within 12 (answerOf h t) 14 ≡ false) × NoneRefused (next h t) ts
 
--- wherever the ring is lent, a readout copies these bytes to the front of the output, or answers 16 where they have no room
-pub record ReadsOut (h : Kept) (tail : List ℕ) (buf : List ℕ) (at : Part) (out : List ℕ) : Type 0 where
-  pub report : readoutOf (h .box) buf at (length out)
-      ≡ cond (ltb (length out) (length tail)) (record { answer = 16; used = 0 }) (record { answer = 0; used = length tail })
-  pub output : readoutBytes (h .box) buf at out ≡ cond (ltb (length out) (length tail)) out (tail ++ drop (length tail) out)
+-- what a readout reports, and what it leaves in the output
+pub record Copied : Type 0 where
+  pub report : Readout
+  pub output : List ℕ
+
+-- the tail's bytes at the front of the output, or 16 where they have no room
+abbrev pub copied : List ℕ → List ℕ → Copied
+copied tail out =
+    cond (ltb (length out) (length tail))
+    (record { report = record { answer = 16; used = 0 }; output = out })
+    (record { report = record { answer = 0; used = length tail }; output = tail ++ drop (length tail) out })
+
+-- as the library reads out
+abbrev pub readTo : Box → List ℕ → Part → List ℕ → Copied
+readTo b buf at out = record { report = readoutOf b buf at (length out); output = readoutBytes b buf at out }
 
 pub record Demand2 {p : Profile} (h : History p) : Type 0 where
   -- every answer, reply and pulse is the document machine's for the calls so far
@@ -49,10 +61,10 @@ pub record Demand2 {p : Profile} (h : History p) : Type 0 where
   pub none : NoneRefused (start h) (h .turns)
   -- the box carries the machine's state
   pub state : stateOf (last (start h) (h .turns) .box) ≡ after p fresh (calls (h .turns))
-  -- the ring holds the longest fitting tail of all records so far, and a readout gives its bytes
+  -- the ring holds the longest fitting tail of all records so far, and wherever it is lent a readout copies its bytes
   pub ring : heldIn (last (start h) (h .turns) .bytes) (last (start h) (h .turns) .box .ring) ≡ tailOf p (h .capacity) (calls (h .turns))
-  pub reads : (buf : List ℕ) (at : Part) (out : List ℕ) → LentWith (last (start h) (h .turns)) (readout out buf at)
-      → ReadsOut (last (start h) (h .turns)) (tailOf p (h .capacity) (calls (h .turns))) buf at out
+  pub reads : (buf : List ℕ) (at : Part) (out : List ℕ) → LentTo (last (start h) (h .turns)) buf at
+      → readTo (last (start h) (h .turns) .box) buf at out ≡ copied (tailOf p (h .capacity) (calls (h .turns))) out
 
 abbrev pub Demand2Holds : Type 0
 Demand2Holds = (p : Profile) (h : History p) → Demand2 h

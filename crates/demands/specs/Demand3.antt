@@ -1,58 +1,43 @@
--- Demand 3: two fresh boxes of one device, same bytes and ticks, each with a proper ring, the second's profile nowhere looser. It speaks of
--- histories, so of boxes that meet demand 2.
-use mathlib.Core.Bool.{Bool, true, false, not, _&&_}
+-- Demand 3: two fresh boxes of one device, same bytes and ticks, each with a proper ring, the second's profile nowhere looser. "Demand 3 is
+-- therefore stated over boxes meeting demand 2": over all programs that do. The library's own histories stand beside them.
+use Prim.Native.Nat.{ℕ}
+use mathlib.Core.Bool.{true}
 use mathlib.Core.Path.{_≡_}
 use mathlib.Core.List.{List, [], _∷_, _++_, List·Memᴰ}
 use Rattle.trace.specs.declared.Record.{Record}
 use Rattle.model.specs.declared.Profile.{Profile}
 use Rattle.model.specs.Profiles.{NowhereLooser}
-use Rattle.model.specs.State.{isTripped}
-use Rattle.demands.specs.History.{Turn, Kept, next, last, History, start, calls, Spoken, spoken}
+use Rattle.model.specs.State.{fresh}
+use Rattle.model.specs.Machine.{Call}
+use Rattle.calls.specs.Making.{makeAnswer}
+use Rattle.demands.specs.History.{History, start, Request, acts, calls, Spoken, spoken}
+use Rattle.demands.specs.Program.{Program, Meets}
+use Rattle.demands.specs.Stretch.{inStretch}
 
--- each pulse of the second the first releases too, in the same call: same clock, channel, width, current
-abbrev pub Included : List Spoken → List Spoken → Type 0
-Included [] [] = Unit
-Included [] (y ∷ ys) = ⊥
-Included (x ∷ xs) [] = ⊥
-Included (x ∷ xs) (y ∷ ys) = ((u : Record) → List·Memᴰ u (y .pulses) → List·Memᴰ u (x .pulses)) × Included xs ys
+-- what the first says to a call and what the second says, whose profile is q, behind the same calls
+pub record Beside (q : Profile) (cs : List Call) (c : Call) (first second : Spoken) : Type 0 where
+  -- each pulse of the second the first releases too, same clock, channel, width, current
+  pub pulses : (u : Record) → List·Memᴰ u (second .pulses) → List·Memᴰ u (first .pulses)
+  -- from the start, or from a call by which the second leaves the tripped state, until just before it next trips, all answers and pulses
+  -- are equal
+  pub equal : inStretch q fresh true (cs ++ c ∷ []) ≡ true → first ≡ second
 
--- a turn trips the box; the box leaves the tripped state by it
-abbrev pub isDown : Kept → Bool
-isDown h = isTripped (h .box .core)
-
-abbrev pub trips : Kept → Turn → Bool
-trips h t = not (isDown h) && isDown (next h t)
-
-abbrev pub leaves : Kept → Turn → Bool
-leaves h t = isDown h && not (isDown (next h t))
-
--- turns behind earlier ones: from the start, or from a call by which the box leaves the tripped state
-pub data Begins (h : Kept) : List Turn → List Turn → Type 0 where
-  at-start : {turns : List Turn} → Begins h [] turns
-  on-leaving : {before : List Turn} {t : Turn} {turns : List Turn} → leaves (last h before) t ≡ true → Begins h before (t ∷ turns)
-
--- until just before it next trips
-unfoldable pub NoTrip : Kept → List Turn → Type 0
-NoTrip h [] = Unit
-NoTrip h (t ∷ ts) = (trips h t ≡ false) × NoTrip (next h t) ts
-
--- a history's turns, those of a stretch and those before it
-pub record Stretch {p : Profile} (h : History p) : Type 0 where
-  pub before : List Turn
-  pub turns : List Turn
-  pub both : before ++ turns ≡ h .turns
-
-abbrev pub reached : {p : Profile} {h : History p} → Stretch h → Kept
-reached {h = h} s = last (start h) (s .before)
-
-pub record Demand3 (p q : Profile) : Type 0 where
-  pub pulses : (first : History p) (second : History q) → calls (first .turns) ≡ calls (second .turns)
-      → Included (spoken (start first) (first .turns)) (spoken (start second) (second .turns))
-  -- all answers and pulses are equal
-  pub equal : (first : History p) (second : History q) (s : Stretch first) (t : Stretch second)
-      → calls (s .before) ≡ calls (t .before) → calls (s .turns) ≡ calls (t .turns)
-      → Begins (start second) (t .before) (t .turns) → NoTrip (reached t) (t .turns)
-      → spoken (reached s) (s .turns) ≡ spoken (reached t) (t .turns)
-
+-- any two programs that meet demand 2, or one of them twice, each where a box is made
 abbrev pub Demand3Holds : Type 0
-Demand3Holds = (p q : Profile) → NowhereLooser q p → Demand3 p q
+Demand3Holds =
+    (p q : Profile) → NowhereLooser q p
+    → (x y : Program) → Meets x → Meets y → (d e : ℕ) → makeAnswer p d ≡ 0 → makeAnswer q e ≡ 0
+    → (rs us : List Request) → acts rs ≡ acts us → (c : Call) → Beside q (acts us) c (x .says p d rs c) (y .says q e us c)
+
+-- call by call, behind the calls `before`
+pub data Along (q : Profile) : List Call → List Call → List Spoken → List Spoken → Type 0 where
+  ended : {before : List Call} → Along q before [] [] []
+  more : {before cs : List Call} {c : Call} {x y : Spoken} {xs ys : List Spoken}
+      → Beside q before c x y → Along q (before ++ c ∷ []) cs xs ys → Along q before (c ∷ cs) (x ∷ xs) (y ∷ ys)
+
+-- any two proper histories of the library's calls
+abbrev pub HistoriesBeside : Type 0
+HistoriesBeside =
+    (p q : Profile) → NowhereLooser q p
+    → (first : History p) (second : History q) → calls (first .turns) ≡ calls (second .turns)
+    → Along q [] (calls (second .turns)) (spoken (start first) (first .turns)) (spoken (start second) (second .turns))

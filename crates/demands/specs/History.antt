@@ -37,30 +37,49 @@ last h [] = h
 last h (t ∷ ts) = last (next h t) ts
 
 -- inside the buffer lies the part of the box's capacity, holding those bytes
+abbrev pub LentTo : Kept → List ℕ → Part → Type 0
+LentTo h buf at = Lent buf at (record { ring = h .box .ring; bytes = h .bytes })
+
 abbrev pub LentWith : Kept → Turn → Type 0
-LentWith h (call c buf at) = Lent buf at (record { ring = h .box .ring; bytes = h .bytes })
-LentWith h (readout out buf at) = Lent buf at (record { ring = h .box .ring; bytes = h .bytes })
+LentWith h (call c buf at) = LentTo h buf at
+LentWith h (readout out buf at) = LentTo h buf at
 
 unfoldable pub Proper : Kept → List Turn → Type 0
 Proper h [] = Unit
 Proper h (t ∷ ts) = LentWith h t × Proper (next h t) ts
 
 -- a box just made, whatever its part holds, and proper turns
+abbrev pub justMade : Profile → ℕ → List ℕ → Kept
+justMade p capacity bytes = record { box = makeOf p capacity .made; bytes = bytes }
+
 pub record History (p : Profile) : Type 0 where
   pub capacity : ℕ
   pub bytes : List ℕ
   pub turns : List Turn
   pub taken : makeOf p capacity .answer ≡ 0
-  pub proper : Proper (record { box = makeOf p capacity .made; bytes = bytes }) turns
+  pub proper : Proper (justMade p capacity bytes) turns
 
 abbrev pub start : {p : Profile} → History p → Kept
-start {p} h = record { box = makeOf p (h .capacity) .made; bytes = h .bytes }
+start {p} h = justMade p (h .capacity) (h .bytes)
 
--- the bytes and ticks of the turns
+-- what a turn asks of the box, wherever its ring lies: to act on a byte or a tick, or to show the ring to an output
+pub data Request : Type 0 where
+  act : Call → Request
+  show : List ℕ → Request
+
+abbrev pub requests : List Turn → List Request
+requests [] = []
+requests (call c buf at ∷ ts) = act c ∷ requests ts
+requests (readout out buf at ∷ ts) = show out ∷ requests ts
+
+-- the bytes and ticks among requests, and those of the turns
+abbrev pub acts : List Request → List Call
+acts [] = []
+acts (act c ∷ rs) = c ∷ acts rs
+acts (show out ∷ rs) = acts rs
+
 abbrev pub calls : List Turn → List Call
-calls [] = []
-calls (call c buf at ∷ ts) = c ∷ calls ts
-calls (readout out buf at ∷ ts) = calls ts
+calls ts = acts (requests ts)
 
 -- what a call says: its answer, its reply, and its pulses, A before B
 pub record Spoken : Type 0 where

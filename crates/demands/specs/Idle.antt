@@ -1,53 +1,64 @@
--- Document 01, "Promises and idle programs": programs that demand 2 excludes. A program is taken by what it says to a row of calls, and by
--- the bytes that it then reads out.
-use Prim.Native.Nat.{ℕ}
-use mathlib.Core.Bool.{true}
+-- Document 01, "Promises and idle programs": programs that demand 2 excludes, each by what it does under one profile and one capacity.
+use Prim.Native.Nat.{ℕ, _≤_, _<_}
 use mathlib.Core.Path.{_≡_}
 use mathlib.Core.List.{List, [], _∷_, map}
-use lib.ListN.{length, drop}
-use Rattle.model.specs.State.{fresh}
-use Rattle.model.specs.Machine.{Call, run}
-use Rattle.demands.specs.FreshBox.{loosest}
-use Rattle.demands.specs.History.{Spoken}
-use Rattle.demands.specs.Demand1.{leavesAll}
-use Rattle.demands.specs.Demand2.{documented, tailOf}
+use lib.ListN.{length, getD}
+use Rattle.model.specs.declared.Profile.{Profile}
+use Rattle.model.specs.Machine.{Call}
+use Rattle.calls.specs.Making.{makeAnswer}
+use Rattle.demands.specs.History.{Request, Request.act, acts}
+use Rattle.demands.specs.Demand2.{tailOf}
+use Rattle.demands.specs.Program.{Program, Meets}
 
-pub record Program : Type 0 where
-  pub says : List Call → List Spoken
-  pub reads : List Call → List ℕ
-
--- it meets demand 2, with the loosest profile and a ring of 32 bytes
-pub record Meets (x : Program) : Type 0 where
-  pub said : (cs : List Call) → x .says cs ≡ map documented (run loosest fresh cs)
-  pub read : (cs : List Call) → x .reads cs ≡ tailOf loosest 32 cs
-
-abbrev pub Each : (Spoken → Type 0) → List Spoken → Type 0
-Each P [] = Unit
-Each P (o ∷ os) = P o × Each P os
-
--- it refuses everything
-abbrev pub RefusesAll : Program → Type 0
-RefusesAll x = (cs : List Call) → Each (λ o. leavesAll (o .answer) ≡ true) (x .says cs)
+-- it refuses everything: it never answers 0
+abbrev pub RefusesAll : Program → Profile → ℕ → Type 0
+RefusesAll x p capacity = (rs : List Request) (c : Call) → x .says p capacity rs c .answer ≡ 0 → ⊥
 
 -- it repeats one answer
-abbrev pub RepeatsOne : Program → Type 0
-RepeatsOne x = (answer : ℕ) × ((cs : List Call) → Each (λ o. o .answer ≡ answer) (x .says cs))
+abbrev pub RepeatsOne : Program → Profile → ℕ → Type 0
+RepeatsOne x p capacity = (answer : ℕ) × ((rs : List Request) (c : Call) → x .says p capacity rs c .answer ≡ answer)
 
--- it does nothing: no pulse comes out
-abbrev pub DoesNothing : Program → Type 0
-DoesNothing x = (cs : List Call) → Each (λ o. o .pulses ≡ []) (x .says cs)
+-- it does nothing: no pulse comes out, and no record is ever there to read out
+abbrev pub NeverPulses : Program → Profile → ℕ → Type 0
+NeverPulses x p capacity = (rs : List Request) (c : Call) → x .says p capacity rs c .pulses ≡ []
 
--- it handles its first call and feigns the rest, whatever the other calls are
-abbrev pub FeignsTheRest : Program → Type 0
-FeignsTheRest x = (c : Call) (cs ds : List Call) → length cs ≡ length ds → drop 1 (x .says (c ∷ cs)) ≡ drop 1 (x .says (c ∷ ds))
+abbrev pub NeverRecords : Program → Profile → ℕ → Type 0
+NeverRecords x p capacity = (rs : List Request) (out : List ℕ) → x .reads p capacity rs out .report .used ≡ 0
 
--- its ring claims a made-up number of bytes
-abbrev pub ClaimsBytes : Program → Type 0
-ClaimsBytes x = (n : ℕ) × ((cs : List Call) → length (x .reads cs) ≡ n)
+abbrev pub DoesNothing : Program → Profile → ℕ → Type 0
+DoesNothing x p capacity = NeverPulses x p capacity × NeverRecords x p capacity
 
-pub record Excluded : Type 0 where
-  pub refusing : (x : Program) → Meets x → RefusesAll x → ⊥
-  pub repeating : (x : Program) → Meets x → RepeatsOne x → ⊥
-  pub doing-nothing : (x : Program) → Meets x → DoesNothing x → ⊥
-  pub feigning : (x : Program) → Meets x → FeignsTheRest x → ⊥
-  pub claiming : (x : Program) → Meets x → ClaimsBytes x → ⊥
+-- a profile that allows some pulse at all: on one channel 1 mA for 10 µs, the least that is not zero, and the charge of both
+pub record AllowsPulse (p : Profile) : Type 0 where
+  pub channel : ℕ
+  pub eight : channel < 8
+  pub current : 1 ≤ getD (p .currents) channel 0
+  pub width : 10 ≤ getD (p .widths) channel 0
+  pub charge : 10 ≤ p .charge
+
+-- it handles its first call and feigns the rest: what it says to a later byte or tick follows, at most, from the first one, from how many
+-- came since, and from itself
+abbrev pub FeignsTheRest : Program → Profile → ℕ → Type 0
+FeignsTheRest x p capacity =
+    (d c : Call) (cs es : List Call) → length cs ≡ length es
+    → x .says p capacity (map act (d ∷ cs)) c ≡ x .says p capacity (map act (d ∷ es)) c
+
+-- its ring claims a made-up number of bytes: a readout that is answered 0 reports another number than the tail has
+pub record ClaimsBytes (x : Program) (p : Profile) (capacity : ℕ) : Type 0 where
+  pub behind : List Request
+  pub out : List ℕ
+  pub done : x .reads p capacity behind out .report .answer ≡ 0
+  pub made-up : x .reads p capacity behind out .report .used ≡ length (tailOf p capacity (acts behind)) → ⊥
+
+-- none of these meets demand 2; nor does one that never pulses where a pulse is allowed, nor one that never records
+pub record Excluded (x : Program) (p : Profile) (capacity : ℕ) : Type 0 where
+  pub refusing : RefusesAll x p capacity → ⊥
+  pub repeating : RepeatsOne x p capacity → ⊥
+  pub doing-nothing : DoesNothing x p capacity → ⊥
+  pub never-pulsing : AllowsPulse p → NeverPulses x p capacity → ⊥
+  pub never-recording : NeverRecords x p capacity → ⊥
+  pub feigning : FeignsTheRest x p capacity → ⊥
+  pub claiming : ClaimsBytes x p capacity → ⊥
+
+abbrev pub IdleExcluded : Type 0
+IdleExcluded = (x : Program) → Meets x → (p : Profile) (capacity : ℕ) → makeAnswer p capacity ≡ 0 → Excluded x p capacity

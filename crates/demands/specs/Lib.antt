@@ -6,6 +6,9 @@ pub mod FreshBox
 pub mod Cases
 pub mod Demand1
 pub mod Demand2
+pub mod Program
+pub mod Use
+pub mod Stretch
 pub mod Demand3
 pub mod Rejoining
 pub mod Idle

@@ -1,4 +1,4 @@
--- Calls with one buffer, one after the other: whatever the bytes and ticks, a proper history has them.
+-- Calls with one buffer, one after the other: whatever the bytes and ticks, and readouts between them, a proper history has them.
 use Prim.Native.Nat.{ℕ}
 use mathlib.Core.Bool.{true}
 use mathlib.Core.Path.{_≡_}
@@ -12,7 +12,7 @@ use Rattle.record.specs.declared.Box.{Box}
 use Rattle.calls.specs.Making.{makeOf}
 use Rattle.calls.specs.Filed.{Answered}
 use Rattle.calls.specs.Calls.{callOf}
-use Rattle.demands.specs.History.{Turn, Turn.call, Proper, calls}
+use Rattle.demands.specs.History.{Turn, Turn.call, Turn.readout, last, LentTo, Proper, justMade, Request, Request.act, Request.show, requests, acts}
 
 -- a box, and the buffer that is lent with it
 pub record Bench : Type 0 where
@@ -27,16 +27,23 @@ unfoldable pub given : Part → Bench → List Call → Bench
 given at k [] = k
 given at k (c ∷ cs) = given at (onward at k c) cs
 
--- the calls as turns
-unfoldable pub turnsOf : Part → Bench → List Call → List Turn
+-- requests as turns
+unfoldable pub turnsOf : Part → Bench → List Request → List Turn
 turnsOf at k [] = []
-turnsOf at k (c ∷ cs) = call c (k .buf) at ∷ turnsOf at (onward at k c) cs
+turnsOf at k (act c ∷ rs) = call c (k .buf) at ∷ turnsOf at (onward at k c) rs
+turnsOf at k (show out ∷ rs) = readout out (k .buf) at ∷ turnsOf at k rs
 
-pub record HasHistory (p : Profile) (capacity : ℕ) (buf : List ℕ) (at : Part) (cs : List Call) : Type 0 where
-  pub proper : Proper (record { box = makeOf p capacity .made; bytes = part buf at }) (turnsOf at (record { box = makeOf p capacity .made; buf = buf }) cs)
-  pub same : calls (turnsOf at (record { box = makeOf p capacity .made; buf = buf }) cs) ≡ cs
+-- from a box just made on, with this buffer
+abbrev pub benchOf : Profile → ℕ → List ℕ → Bench
+benchOf p capacity buf = record { box = makeOf p capacity .made; buf = buf }
+
+-- they are proper, and so is the buffer that they leave
+pub record HasHistory (p : Profile) (capacity : ℕ) (buf : List ℕ) (at : Part) (rs : List Request) : Type 0 where
+  pub same : requests (turnsOf at (benchOf p capacity buf) rs) ≡ rs
+  pub proper : Proper (justMade p capacity (part buf at)) (turnsOf at (benchOf p capacity buf) rs)
+  pub lent : LentTo (last (justMade p capacity (part buf at)) (turnsOf at (benchOf p capacity buf) rs)) (given at (benchOf p capacity buf) (acts rs) .buf) at
 
 abbrev pub AnyHistory : Type 0
 AnyHistory =
-    (p : Profile) (capacity : ℕ) (buf : List ℕ) (at : Part) (cs : List Call)
-    → makeOf p capacity .answer ≡ 0 → goodPart (length buf) at capacity ≡ true → HasHistory p capacity buf at cs
+    (p : Profile) (capacity : ℕ) (buf : List ℕ) (at : Part) (rs : List Request)
+    → makeOf p capacity .answer ≡ 0 → goodPart (length buf) at capacity ≡ true → HasHistory p capacity buf at rs
