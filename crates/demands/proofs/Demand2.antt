@@ -22,7 +22,7 @@ use Rattle.record.proofs.Carries.{carries}
 use Rattle.calls.specs.Making.{emptyRing, freshBox, makeOf}
 use Rattle.demands.specs.History.{Kept, History, start, calls}
 use Rattle.demands.specs.Demand2.{Demand2Holds}
-use Rattle.demands.proofs.Histories.{box, Grown, Holds, from, reads}
+use Rattle.demands.proofs.Histories.{Grown, Holds, from, reads}
 
 -- a box that was made: from a good profile, with a good capacity
 pub record WasMade (p : Profile) (capacity : ℕ) : Type 0 where

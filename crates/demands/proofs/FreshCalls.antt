@@ -21,7 +21,7 @@ use Rattle.demands.specs.Demand2.{tailOf}
 module _ (p : Profile) where
   -- a tick is taken
   pub ticks-0 : step p fresh tick .answer ≡ 0
-  unfolding step tickStep timed
+  unfolding step tickStep
   ticks-0 = refl
 
   -- a low byte is a stray
@@ -31,11 +31,11 @@ module _ (p : Profile) where
 
   -- and so it is behind ticks; it goes on with a frame that is open
   pub then-strays-2 : step p (after p fresh (tick ∷ tick ∷ [])) (byte 0) .answer ≡ 2
-  unfolding step after byteStep arrive followed taken tickStep timed
+  unfolding step after byteStep arrive followed taken tickStep
   then-strays-2 = refl
 
   pub then-goes-on-1 : step p (after p fresh (tick ∷ byte 0x80 ∷ [])) (byte 0) .answer ≡ 1
-  unfolding step after byteStep arrive opened followed lengthened taken tickStep timed
+  unfolding step after byteStep arrive opened followed lengthened taken
   then-goes-on-1 = refl
 
   -- a Stop files a record of seven bytes

@@ -129,7 +129,7 @@ module _ {p : Profile} {capacity : ℕ} {g : Ring} {s : State} {bytes : List ℕ
           tail = filed-tail at g buf xs (x .records) capacity ready (f .same) has-tail;
         }
 
-    pub then : next (box p g s bytes) (call c buf at) ≡ box p (after-it .ring) (x .state) (part (after-it .buf) at)
+    then : next (box p g s bytes) (call c buf at) ≡ box p (after-it .ring) (x .state) (part (after-it .buf) at)
     unfolding next given boxOf
     then = ap (λ (r : Answered). record { box = r .called .next; bytes = part (r .buf) at }) gives
 

@@ -7,14 +7,15 @@ use lib.Dec.{ltb}
 use lib.ListN.{length, replicate}
 use Rattle.model.specs.declared.Profile.{Profile}
 use Rattle.model.specs.State.{fresh}
-use Rattle.model.specs.Machine.{Call, Call.byte, Call.tick, outcome, step, after}
+use Rattle.model.specs.Machine.{Call, Call.byte, Call.tick, step, after}
 use Rattle.model.proofs.Tests.{either-way}
 use Rattle.calls.specs.Making.{makeAnswer, makeOf}
 use Rattle.demands.specs.History.{Request, Request.act, acts, Spoken}
-use Rattle.demands.specs.Demand2.{documented, tailOf, Copied, copied}
+use Rattle.demands.specs.Demand2.{tailOf, Copied, copied}
 use Rattle.demands.specs.Program.{Program, Meets}
 use Rattle.demands.specs.Idle.{RefusesAll, RepeatsOne, NeverPulses, NeverRecords, DoesNothing, AllowsPulse, FeignsTheRest, ClaimsBytes, IdleExcluded}
 use Rattle.demands.proofs.Demand2.{was-made, fresh-grown}
+use Rattle.demands.proofs.Program.{meets-says, meets-reads}
 use Rattle.demands.proofs.FreshCalls.{ticks-0, strays-2, then-strays-2, then-goes-on-1, stop-files}
 use Rattle.demands.proofs.LeastPulse.{opening, least-pulses}
 
@@ -24,14 +25,8 @@ copied-used tail out =
     either-way (ltb (length out) (length tail)) (λ e. rw e (λ z. absurd (omega arith))) (λ e. rw e (λ z. refl))
 
 module _ (x : Program) (m : Meets x) (p : Profile) (capacity : ℕ) (made : makeAnswer p capacity ≡ 0) where
-  says : (rs : List Request) (c : Call) → x .says p capacity rs c ≡ documented (outcome (step p (after p fresh (acts rs)) c))
-  says rs c = rw made at (m .said p capacity rs c)
-
-  reads : (rs : List Request) (out : List ℕ) → x .reads p capacity rs out ≡ copied (tailOf p capacity (acts rs)) out
-  reads rs out = rw made at (m .read p capacity rs out)
-
   answers : (rs : List Request) (c : Call) → x .says p capacity rs c .answer ≡ step p (after p fresh (acts rs)) c .answer
-  answers rs c = ap (λ (o : Spoken). o .answer) (says rs c)
+  answers rs c = ap (λ (o : Spoken). o .answer) (meets-says m p capacity made rs c)
 
   refusing : RefusesAll x p capacity → ⊥
   unfolding after
@@ -45,27 +40,30 @@ module _ (x : Program) (m : Meets x) (p : Profile) (capacity : ℕ) (made : make
   never-pulsing : AllowsPulse p → NeverPulses x p capacity → ⊥
   never-pulsing a r =
       let rs : List Request = map act (opening p a) in
-      omega (arith, ap length (sym (r rs (byte 1)) ∙ ap (λ (o : Spoken). o .pulses) (says rs (byte 1)) ∙ least-pulses p a))
+      let one = ap (λ (o : Spoken). o .pulses) (meets-says m p capacity made rs (byte 1)) ∙ least-pulses p a in
+      omega (arith, ap length (sym (r rs (byte 1)) ∙ one))
 
   never-recording : NeverRecords x p capacity → ⊥
   unfolding makeOf
   never-recording r =
+      let rs : List Request = act (byte 0xC0) ∷ [] in
+      let out : List ℕ = replicate 7 0 in
       let least : 16 ≤ capacity = fresh-grown p capacity (was-made p capacity made) [] .ring .least in
-      let stop : List Request = act (byte 0xC0) ∷ [] in
-      let e = reads stop (replicate 7 0) ∙ ap (λ (tail : List ℕ). copied tail (replicate 7 0)) (stop-files p capacity least) in
-      omega (arith, r stop (replicate 7 0), ap (λ (o : Copied). o .report .used) e)
+      let e = meets-reads m p capacity made rs out ∙ ap (λ (tail : List ℕ). copied tail out) (stop-files p capacity least) in
+      omega (arith, r rs out, ap (λ (o : Copied). o .report .used) e)
 
   doing-nothing : DoesNothing x p capacity → ⊥
   doing-nothing r = never-recording (r .1)
 
   feigning : FeignsTheRest x p capacity → ⊥
   feigning r =
-      let e = r tick (byte 0) (tick ∷ []) (byte 0x80 ∷ []) refl in
-      omega (arith, ap (λ (o : Spoken). o .answer) e, answers (act tick ∷ act tick ∷ []) (byte 0), then-strays-2 p, answers (act tick ∷ act (byte 0x80) ∷ []) (byte 0), then-goes-on-1 p)
+      let strays = answers (act tick ∷ act tick ∷ []) (byte 0) ∙ then-strays-2 p in
+      let goes-on = answers (act tick ∷ act (byte 0x80) ∷ []) (byte 0) ∙ then-goes-on-1 p in
+      omega (arith, strays, goes-on, ap (λ (o : Spoken). o .answer) (r tick (byte 0) (tick ∷ []) (byte 0x80 ∷ []) refl))
 
   claiming : ClaimsBytes x p capacity → ⊥
   claiming r =
-      let e = reads (r .behind) (r .out) in
+      let e = meets-reads m p capacity made (r .behind) (r .out) in
       let used = copied-used (tailOf p capacity (acts (r .behind))) (r .out) (ap (λ (o : Copied). o .report .answer) (sym e) ∙ r .done) in
       r .made-up (ap (λ (o : Copied). o .report .used) e ∙ used)
 

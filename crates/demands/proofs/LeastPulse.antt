@@ -1,6 +1,6 @@
 -- The least pulse: a Single of 1 mA for 10 µs, on a channel that allows it, pulses. Assumes nothing.
 use Prim.Native.Nat.{ℕ, _+_, _*_, _^_, _≤_, _<_}
-use mathlib.Core.Bool.{true, false}
+use mathlib.Core.Bool.{Bool, true, false}
 use mathlib.Core.Path.{_≡_, refl, ap, ap₂, _∙_}
 use mathlib.Core.List.{List, [], _∷_, _++_}
 use native.Mathlib.Omega.{arith}
@@ -17,6 +17,7 @@ use Rattle.frames.specs.Layout.{checkIn}
 use Rattle.frames.specs.Bytes.{head}
 use Rattle.trace.specs.declared.Record.the-variants.{Answer, Pulse}
 use Rattle.model.specs.declared.Profile.{Profile}
+use Rattle.model.specs.Below.{someBelow}
 use Rattle.model.specs.Channels.{silence}
 use Rattle.model.specs.Slots.{felt}
 use Rattle.model.specs.Profiles.{overAt, overLimits}
@@ -58,55 +59,64 @@ module _ (p : Profile) where
       ∙ ap (λ (r : Result). step p (r .state) (byte b3)) (follows (b0 ∷ b1 ∷ []) b2 h2)
       ∙ follows (b0 ∷ b1 ∷ b2 ∷ []) b3 h3
 
--- a setting that no limit forbids
+-- ---- no limit forbids it
+
 under : (p : Profile) (i : ℕ) (x : Setting) → x .current ≤ getD (p .currents) i 0 → x .width ≤ getD (p .widths) i 0
     → x .current * x .width ≤ p .charge → overAt p i x ≡ false
 unfolding overAt
 under p i x c w h = rw (le-ltb _ _ c, le-ltb _ _ w, le-ltb _ _ h)
 
-abbrev least : ℕ → Single
-least i = record { channel = i; width = 10; current = 1 }
+-- a fresh box has no hold
+no-hold : (v : Single) → inHold (fresh .core) (single v) ≡ false
+unfolding inHold
+no-hold v = either-way (ltb (v .channel) 4) (λ e. rw e) (λ e. rw e)
 
 module _ (p : Profile) (a : AllowsPulse p) where
-  abbrev i : ℕ
-  i = a .channel
+  abbrev least : Single
+  least = record { channel = a .channel; width = 10; current = 1 }
 
-  abbrev settings : List Setting
-  settings = set silence i (record { mode = 0; width = 10; current = 1 })
-
-  all-under : overLimits p settings ≡ false
-  unfolding overLimits
+  all-under : overLimit p (fresh .core) (single least) ≡ false
+  unfolding overLimit overLimits asked
   all-under =
-      either-way (overLimits p settings)
-      (λ t. let (j, l, over) = some-below 8 (λ j. overAt p j (getD settings j noSetting)) t in not-both over (at j l))
+      either-way (someBelow 8 over-at)
+      (λ t. let (i, l, o) = some-below 8 over-at t in not-both o (not-over i l))
       (λ e. e)
     where
-      at : (j : ℕ) → j < 8 → overAt p j (getD settings j noSetting) ≡ false
-      at j l =
-          either-way (eqb j i)
-          (λ e. rw (eqb-true j i e, getD-set-same silence i (record { mode = 0; width = 10; current = 1 }) noSetting (a .eight))
-          (under p i _ (a .current) (a .width) (a .charge)))
-          (λ e. rw (getD-set-other silence i j (record { mode = 0; width = 10; current = 1 }) noSetting (eqb-false j i e), getD-replicate {A = Setting} 8 j noSetting noSetting l)
-          (under p j noSetting (omega arith) (omega arith) (omega arith)))
+      x : Setting
+      x = record { mode = 0; width = 10; current = 1 }
 
-  pulsed : judged p 0 (fresh .core) (check (single (least i))) (single (least i)) .records ≡ Answer 0 3 0 ∷ Pulse 0 (i + 1) 10 1 ∷ []
-  unfolding judged judge refusals breaksTiming inHold overLimit asked decided carry accept felt
-  pulsed =
-      either-way (ltb i 4)
-      (λ e. rw (eq-eqb (check (single (least i))) _ refl, le-leb i 7 (omega (arith, a .eight)), e, all-under) refl)
-      (λ e. rw (eq-eqb (check (single (least i))) _ refl, le-leb i 7 (omega (arith, a .eight)), e, all-under) refl)
+      over-at : ℕ → Bool
+      over-at i = overAt p i (getD (set silence (a .channel) x) i noSetting)
 
-  -- the calls of a Single, all but its last byte, and that
+      not-over : (i : ℕ) → i < 8 → over-at i ≡ false
+      not-over i l =
+          either-way (eqb i (a .channel))
+          (λ e.
+          rw (eqb-true i (a .channel) e, getD-set-same silence (a .channel) x noSetting (a .eight))
+          (under p (a .channel) x (a .current) (a .width) (a .charge)))
+          (λ e.
+          rw (getD-set-other silence (a .channel) i x noSetting (eqb-false i (a .channel) e), getD-replicate {A = Setting} 8 i noSetting noSetting l)
+          (under p i noSetting (omega arith) (omega arith) (omega arith)))
+
+  -- ---- and so it comes out
+
+  is-good : goodSingle least ≡ true
+  is-good = rw (le-leb (a .channel) 7 (omega (arith, a .eight)))
+
+  pulsed : judged p 0 (fresh .core) (check (single least)) (single least) .records ≡ Answer 0 3 0 ∷ Pulse 0 (a .channel + 1) 10 1 ∷ []
+  unfolding judged judge refusals breaksTiming decided carry accept felt
+  pulsed = rw (eq-eqb (check (single least)) _ refl, is-good, no-hold least, all-under)
+
+  -- its first three bytes; the fourth is its current
   abbrev pub opening : List Call
-  opening = byte (head 3 (check (single (least i)))) ∷ byte (i * 2 ^ 4 + field 10 7 2) ∷ byte (field 10 0 7) ∷ []
+  opening = byte (head 3 (check (single least))) ∷ byte (a .channel * 2 ^ 4 + field 10 7 2) ∷ byte (field 10 0 7) ∷ []
 
-  pub least-pulses : documented (outcome (step p (after p fresh opening) (byte 1))) .pulses ≡ Pulse 0 (i + 1) 10 1 ∷ []
+  pub least-pulses : documented (outcome (step p (after p fresh opening) (byte 1))) .pulses ≡ Pulse 0 (a .channel + 1) 10 1 ∷ []
   unfolding pulsesIn
   least-pulses =
-      let k = check (single (least i)) in
-      let hk = mod-lt (i + 10 + 1) {m = 32} (omega arith) in
-      let g : goodSingle (least i) ≡ true = rw (le-leb i 7 (omega (arith, a .eight))) refl in
+      let k = check (single least) in
+      let hk = mod-lt (a .channel + 10 + 1) {m = 32} (omega arith) in
       ap (λ (r : Result). pulsesIn (r .records))
-      (four p (head 3 k) (i * 2 ^ 4 + field 10 7 2) (field 10 0 7) 1 (omega arith) (omega arith) (omega (arith, a .eight)) (omega arith) (omega arith)
-      ∙ ap₂ (judged p 0 (fresh .core)) (single-check (least i) k [] hk g) (single-there (least i) k [] hk g 1))
+      (four p (head 3 k) (a .channel * 2 ^ 4 + field 10 7 2) (field 10 0 7) 1 (omega arith) (omega arith) (omega (arith, a .eight)) (omega arith) (omega arith)
+      ∙ ap₂ (judged p 0 (fresh .core)) (single-check least k [] hk is-good) (single-there least k [] hk is-good 1))
       ∙ ap pulsesIn pulsed

@@ -12,8 +12,9 @@ pub mod Demand1
 pub mod Histories
 pub mod Demand2
 pub mod OneBuffer
-pub mod Program
+pub mod OneProgram
 pub mod Use
+pub mod Program
 pub mod Limits
 pub mod Parted
 pub mod Stricter

@@ -17,24 +17,24 @@ use Rattle.calls.specs.Calls as guard
 use Rattle.demands.specs.History.{Kept, next, last, LentTo, Proper, Request, Request.act, Request.show, requests, acts}
 use Rattle.demands.specs.OneBuffer.{Bench, onward, given, turnsOf, benchOf, AnyHistory}
 use Rattle.demands.proofs.Filed.{filed-ready, ready-placed}
-use Rattle.demands.proofs.Histories.{box, Grown, ready, gives, grows}
+use Rattle.demands.proofs.Histories.{Grown, ready, gives, grows}
 use Rattle.demands.proofs.Demand2.{was-made, fresh-grown}
 
 -- requests in one buffer are proper, and so is what they leave of it
-abbrev InPlace : Part → Bench → List Request → Type 0
-InPlace at k rs =
+abbrev StaysProper : Part → Bench → List Request → Type 0
+StaysProper at k rs =
     let h : Kept = record { box = k .box; bytes = part (k .buf) at } in
     Proper h (turnsOf at k rs) × LentTo (last h (turnsOf at k rs)) (given at k (acts rs) .buf) at
 
 stays-proper : {p : Profile} {capacity : ℕ} (at : Part) {g : Ring} {s : State} (buf : List ℕ) {xs : List Record} (rs : List Request)
     → Grown p capacity g s (part buf at) xs → Lent buf at (record { ring = g; bytes = part buf at })
-    → InPlace at (record { box = boxOf p g s; buf = buf }) rs
+    → StaysProper at (record { box = boxOf p g s; buf = buf }) rs
 unfolding Proper last turnsOf onward given next guard.given boxOf
 stays-proper at buf [] f l = (tt, l)
 stays-proper at buf (show out ∷ rs) f l = let w = stays-proper at buf rs f l in ((l, w .0), w .1)
 stays-proper {p} at {g} {s} buf (act c ∷ rs) f l =
     let r = filed-ready at g buf (step p s c .records) (ready f buf at l) in
-    let w = subst⁻¹ (λ (x : Answered). InPlace at (record { box = x .called .next; buf = x .buf }) rs) (gives f buf at l c)
+    let w = subst⁻¹ (λ (x : Answered). StaysProper at (record { box = x .called .next; buf = x .buf }) rs) (gives f buf at l c)
     (stays-proper at _ rs (grows f buf at l c) (part-good _ at _ (ready-placed _ at _ r), refl)) in
     ((l, w .0), w .1)
 
@@ -48,5 +48,5 @@ pub any-history : AnyHistory
 unfolding boxOf
 any-history p capacity buf at rs e l =
     let m = was-made p capacity e in
-    let w : InPlace at (benchOf p capacity buf) rs = rw (m .box) (stays-proper at buf rs (fresh-grown p capacity m (part buf at)) (l, refl)) in
+    let w : StaysProper at (benchOf p capacity buf) rs = rw (m .box) (stays-proper at buf rs (fresh-grown p capacity m (part buf at)) (l, refl)) in
     record { same = same-requests at _ rs; proper = w .0; lent = w .1 }

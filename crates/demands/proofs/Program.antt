@@ -1,11 +1,18 @@
--- Demand 2 leaves one program. Assumes nothing.
-use mathlib.Core.Path.{sym, _∙_}
-use Rattle.demands.specs.Program.{OneProgram}
+-- What a program that meets demand 2 says and reads out where a box is made. Assumes nothing.
+use Prim.Native.Nat.{ℕ}
+use mathlib.Core.Path.{_≡_}
+use mathlib.Core.List.{List}
+use Rattle.model.specs.declared.Profile.{Profile}
+use Rattle.model.specs.State.{fresh}
+use Rattle.model.specs.Machine.{Call, outcome, step, after}
+use Rattle.calls.specs.Making.{makeAnswer}
+use Rattle.demands.specs.History.{Request, acts}
+use Rattle.demands.specs.Demand2.{documented, tailOf, copied}
+use Rattle.demands.specs.Program.{Program, Meets}
 
-pub meets-alike : OneProgram
-meets-alike x y m n =
-    record {
-      makes = λ p capacity. m .made p capacity ∙ sym (n .made p capacity);
-      says = λ p capacity rs c. m .said p capacity rs c ∙ sym (n .said p capacity rs c);
-      reads = λ p capacity rs out. m .read p capacity rs out ∙ sym (n .read p capacity rs out);
-    }
+module _ {x : Program} (m : Meets x) (p : Profile) (capacity : ℕ) (made : makeAnswer p capacity ≡ 0) where
+  pub meets-says : (rs : List Request) (c : Call) → x .says p capacity rs c ≡ documented (outcome (step p (after p fresh (acts rs)) c))
+  meets-says rs c = rw made at (m .said p capacity rs c)
+
+  pub meets-reads : (rs : List Request) (out : List ℕ) → x .reads p capacity rs out ≡ copied (tailOf p capacity (acts rs)) out
+  meets-reads rs out = rw made at (m .read p capacity rs out)

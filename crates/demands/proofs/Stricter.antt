@@ -1,8 +1,9 @@
 -- Two fresh boxes that get the same bytes and ticks, the second's profile nowhere looser: each pulse of the second is one of the
 -- first, and in its stretches all that they give back is equal. Assumes nothing.
-use mathlib.Core.Bool.{Bool, true, false, false≢true}
-use mathlib.Core.Path.{_≡_, refl, ap}
+use mathlib.Core.Bool.{Bool, true, false, not}
+use mathlib.Core.Path.{_≡_, refl, sym, ap, _∙_}
 use mathlib.Core.List.{List, [], _∷_, _++_, map, List·Memᴰ, List·Memᴰ·not-nil}
+use borrow.Author.Tests.{not-true}
 use Rattle.trace.specs.declared.Record.{Record}
 use Rattle.model.specs.declared.Profile.{Profile}
 use Rattle.model.specs.Profiles.{NowhereLooser}
@@ -18,21 +19,21 @@ use Rattle.demands.proofs.Parted.{Apart, Apart.apart, Related, Related.
 
 -- ---- a stretch
 
--- in a stretch the box is not tripped
-stays-up : (was is on : Bool) → (on ≡ true → was ≡ false) → goesOn was is on ≡ true → is ≡ false
-stays-up false true on u e = absurd (false≢true e)
-stays-up true false on u e = refl
-stays-up false false on u e = refl
-stays-up true true on u e = u e
+goes-on : (was is : Bool) → goesOn was is (not was) ≡ not is
+goes-on false true = refl
+goes-on true false = refl
+goes-on false false = refl
+goes-on true true = refl
 
-untripped : (p : Profile) (s : State) (on : Bool) (cs : List Call) → (on ≡ true → isTripped (s .core) ≡ false)
-    → inStretch p s on cs ≡ true → isTripped (after p s cs .core) ≡ false
+-- a call is in one exactly if the box is not tripped behind it
+pub in-stretch : (p : Profile) (s : State) (cs : List Call) → inStretch p s (not (isTripped (s .core))) cs ≡ not (isTripped (after p s cs .core))
 unfolding inStretch after
-untripped p s on [] u e = u e
-untripped p s on (c ∷ cs) u e =
-    untripped p (step p s c .state) _ cs (stays-up (isTripped (s .core)) (isTripped (step p s c .state .core)) on u) e
+in-stretch p s [] = refl
+in-stretch p s (c ∷ cs) =
+    let t = step p s c .state in
+    ap (λ (on : Bool). inStretch p t on cs) (goes-on (isTripped (s .core)) (isTripped (t .core))) ∙ in-stretch p t cs
 
-pub after-one : (p : Profile) (s : State) (cs : List Call) (c : Call) → after p s (cs ++ c ∷ []) ≡ step p (after p s cs) c .state
+after-one : (p : Profile) (s : State) (cs : List Call) (c : Call) → after p s (cs ++ c ∷ []) ≡ step p (after p s cs) c .state
 unfolding after
 after-one p s [] c = refl
 after-one p s (d ∷ cs) c = after-one p (step p s d .state) cs c
@@ -72,8 +73,8 @@ module _ (p q : Profile) (l : NowhereLooser q p) where
       record {
         pulses = pulses m;
         equal = λ e.
-            let up = untripped q fresh true (cs ++ c ∷ []) (λ _. refl) e in
-            ap (λ (r : Result). documented (outcome r)) (equal m (rw after-one at up));
+            let up = rw (after-one q fresh cs c) at (in-stretch q fresh (cs ++ c ∷ [])) in
+            ap (λ (r : Result). documented (outcome r)) (equal m (not-true _ (sym up ∙ e)));
       }
 
   -- call by call

@@ -1,7 +1,7 @@
 -- The library meets demand 2 however it is used, and it can be used. Assumes nothing.
 use Prim.Native.Nat.{ℕ, _+_}
 use mathlib.Core.Bool.{false}
-use mathlib.Core.Path.{_≡_, refl, ap, _∙_}
+use mathlib.Core.Path.{_≡_, refl, ap, subst, _∙_}
 use mathlib.Core.List.{List, [], _∷_}
 use native.Mathlib.Omega.{arith}
 use lib.Dec.{eqb}
@@ -19,36 +19,36 @@ use Rattle.calls.specs.Filed.{Answered}
 use Rattle.calls.specs.Calls.{turnedAway, given, callOf}
 use Rattle.calls.specs.Readout.{readoutOf, readoutBytes}
 use Rattle.calls.proofs.Zero.{zero-not-good}
-use Rattle.demands.specs.History.{Turn, Turn.call, Turn.readout, Kept, next, last, History, Request, acts, spokenBy}
+use Rattle.demands.specs.History.{Turn, Turn.call, Turn.readout, Kept, next, last, LentTo, History, Request, acts, spokenBy}
 use Rattle.demands.specs.OneBuffer.{Bench, turnsOf, benchOf}
 use Rattle.demands.specs.OneBuffer as buffer
 use Rattle.demands.specs.Demand2.{documented, tailOf, copied}
 use Rattle.demands.specs.Use.{Used, reached, Use, saidNext, readNext, programOf, LibraryMeets}
-use Rattle.demands.proofs.Histories.{box, gives, says}
+use Rattle.demands.proofs.Histories.{gives, says}
 use Rattle.demands.proofs.Demand2.{whole, demand2}
 use Rattle.demands.proofs.OneBuffer.{same-requests, any-history}
 
 -- ---- a box was made
 
 module _ {p : Profile} {capacity : ℕ} {rs : List Request} (v : Used p capacity rs) (e : makeAnswer p capacity ≡ 0) where
-  history : History p
+  as-history : History p
   unfolding makeOf
-  history = record { capacity = capacity; bytes = v .bytes; turns = v .turns; taken = e; proper = v .proper e .0 }
+  as-history = record { capacity = capacity; bytes = v .bytes; turns = v .turns; taken = e; proper = v .proper e .0 }
 
   made-says : (c : Call) → saidNext v c ≡ documented (outcome (step p (after p fresh (acts rs)) c))
-  unfolding history boxOf given
+  unfolding as-history boxOf given
   made-says c =
-      let w = whole p history in
-      let l = rw (w .left) at (v .proper e .1) in
+      let w = whole p as-history in
+      let l = subst (λ (k : Kept). LentTo k (v .buf) (v .at)) (w .left) (v .proper e .1) in
       ap (λ (k : Kept). spokenBy (callOf (k .box) (v .buf) (v .at) c .called .said)) (w .left)
       ∙ ap (λ (r : Answered). spokenBy (r .called .said)) (gives (w .grown) (v .buf) (v .at) l c)
       ∙ says (w .grown) (v .buf) (v .at) l c
       ∙ ap (λ (us : List Request). documented (outcome (step p (after p fresh (acts us)) c))) (v .same)
 
   made-reads : (out : List ℕ) → readNext v out ≡ copied (tailOf p capacity (acts rs)) out
-  unfolding history
+  unfolding as-history
   made-reads out =
-      demand2 p history .reads (v .buf) (v .at) out (v .proper e .1)
+      demand2 p as-history .reads (v .buf) (v .at) out (v .proper e .1)
       ∙ ap (λ (us : List Request). copied (tailOf p capacity (acts us)) out) (v .same)
 
 -- ---- none was

@@ -22,11 +22,11 @@ pub record Beside (q : Profile) (cs : List Call) (c : Call) (first second : Spok
   -- are equal
   pub equal : inStretch q fresh true (cs ++ c ∷ []) ≡ true → first ≡ second
 
--- any two programs that meet demand 2, or one of them twice, each where a box is made
+-- any two programs that meet demand 2, or one of them twice, each where a box is made; readouts may stand anywhere between
 abbrev pub Demand3Holds : Type 0
 Demand3Holds =
-    (p q : Profile) → NowhereLooser q p
-    → (x y : Program) → Meets x → Meets y → (d e : ℕ) → makeAnswer p d ≡ 0 → makeAnswer q e ≡ 0
+    (p q : Profile) → NowhereLooser q p → (x y : Program) → Meets x → Meets y
+    → (d e : ℕ) → makeAnswer p d ≡ 0 → makeAnswer q e ≡ 0
     → (rs us : List Request) → acts rs ≡ acts us → (c : Call) → Beside q (acts us) c (x .says p d rs c) (y .says q e us c)
 
 -- call by call, behind the calls `before`
@@ -38,6 +38,5 @@ pub data Along (q : Profile) : List Call → List Call → List Spoken → List 
 -- any two proper histories of the library's calls
 abbrev pub HistoriesBeside : Type 0
 HistoriesBeside =
-    (p q : Profile) → NowhereLooser q p
-    → (first : History p) (second : History q) → calls (first .turns) ≡ calls (second .turns)
+    (p q : Profile) → NowhereLooser q p → (first : History p) (second : History q) → calls (first .turns) ≡ calls (second .turns)
     → Along q [] (calls (second .turns)) (spoken (start first) (first .turns)) (spoken (start second) (second .turns))

@@ -28,7 +28,7 @@ NeverRecords x p capacity = (rs : List Request) (out : List ℕ) → x .reads p 
 abbrev pub DoesNothing : Program → Profile → ℕ → Type 0
 DoesNothing x p capacity = NeverPulses x p capacity × NeverRecords x p capacity
 
--- a profile that allows some pulse at all: on one channel 1 mA for 10 µs, the least that is not zero, and the charge of both
+-- a profile that allows some pulse at all: on one channel the least that there is, 1 mA for 10 µs, and the charge of both
 pub record AllowsPulse (p : Profile) : Type 0 where
   pub channel : ℕ
   pub eight : channel < 8
@@ -37,7 +37,7 @@ pub record AllowsPulse (p : Profile) : Type 0 where
   pub charge : 10 ≤ p .charge
 
 -- it handles its first call and feigns the rest: what it says to a later byte or tick follows, at most, from the first one, from how many
--- came since, and from itself
+-- came since, and from the later one itself
 abbrev pub FeignsTheRest : Program → Profile → ℕ → Type 0
 FeignsTheRest x p capacity =
     (d c : Call) (cs es : List Call) → length cs ≡ length es

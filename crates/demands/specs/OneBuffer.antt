@@ -41,7 +41,8 @@ benchOf p capacity buf = record { box = makeOf p capacity .made; buf = buf }
 pub record HasHistory (p : Profile) (capacity : ℕ) (buf : List ℕ) (at : Part) (rs : List Request) : Type 0 where
   pub same : requests (turnsOf at (benchOf p capacity buf) rs) ≡ rs
   pub proper : Proper (justMade p capacity (part buf at)) (turnsOf at (benchOf p capacity buf) rs)
-  pub lent : LentTo (last (justMade p capacity (part buf at)) (turnsOf at (benchOf p capacity buf) rs)) (given at (benchOf p capacity buf) (acts rs) .buf) at
+  pub lent : LentTo (last (justMade p capacity (part buf at)) (turnsOf at (benchOf p capacity buf) rs))
+      (given at (benchOf p capacity buf) (acts rs) .buf) at
 
 abbrev pub AnyHistory : Type 0
 AnyHistory =
