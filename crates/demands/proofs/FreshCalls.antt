@@ -14,7 +14,7 @@ use Rattle.model.specs.State.{fresh}
 use Rattle.model.specs.Judgement.{breaksTiming, inHold, overLimit, refusals, judge}
 use Rattle.model.specs.Effects.{accept, carry}
 use Rattle.model.specs.Arrival.{lengthened, opened, followed, arrive, decided, judged, taken, byteStep}
-use Rattle.model.specs.Ticks.{timed, tickStep}
+use Rattle.model.specs.Ticks.{tickStep}
 use Rattle.model.specs.Machine.{Call.byte, Call.tick, step, run, after}
 use Rattle.demands.specs.Demand2.{tailOf}
 
