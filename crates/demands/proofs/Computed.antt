@@ -32,18 +32,44 @@ use Rattle.trace.specs.Round.{around, fromStart, content, storedRound}
 use Rattle.trace.specs.Ring.{goodRing, goodPart, withPart, placeAnswer, readyAnswer, readoutAnswer, roomFor, pushedRing, pushedPart, pushed, pushedBuf, readOut, readBytes}
 use Rattle.demands.specs.OneBuffer.{onward, given}
 use Rattle.demands.specs.FreshBox.{loosest}
-use Rattle.demands.specs.Cases.{cases, Claim}
+use Rattle.demands.specs.Cases.{upToClock, cases, Claim}
 use Rattle.demands.specs.Rejoining.{strict, Rejoins}
+use Rattle.demands.proofs.Silence.{ticks-behind}
 
 pub record Computed : Type 0 where
   pub claimed : Claim
   pub rejoining : NowhereLooser strict loosest → Rejoins
 
+infixr 20 _then_
+-- a case, and those behind it
+_then_ : {A B : Type 0} → A → B → A × B
+a then b = (a, b)
+
 pub computed : Computed
 unfolding cases firstHigh sumAll goodEntries initWord entryIn settingsIn entriesIn commandIn checkIn settingsBytes readFrame wrote written inSet many placed t1 t2 keepsModules keepsMain largestMode slot inTurn felt hits due overAt overLimits asked breaksTiming inHold overLimit refusals judge accept carry lengthened opened followed arrive decided judged taken byteStep moved releases watched timed tickStep step run after pulsesIn goodProfile allGood runInRange inRange onlyListed unlistedZero keepsTiming keepsProfile zeroRun goodSize goodPartial stateOf frameOf boxOf zeros unusedZero goodBox pulseOf saidOf makeOf filed callOf calls.given readoutOf readoutBytes sizeOf joined splitsAfter recordsAfter tailWithin kept around fromStart content storedRound goodRing goodPart withPart placeAnswer readyAnswer readoutAnswer roomFor pushedRing pushedPart pushed pushedBuf readOut readBytes onward given
 computed =
     record {
-      claimed = refl;
+      claimed =
+          ((refl, refl, refl), refl)
+          then ((refl, refl, refl), refl)
+          then refl
+          then (refl, refl)
+          then (refl, refl, refl)
+          then (refl, refl, refl)
+          then (refl, refl, refl)
+          then ((refl, refl, refl), (refl, refl, refl))
+          then (
+            ((refl, refl, refl), (refl, refl, refl), (refl, refl, refl), (refl, refl, refl)),
+            ((refl, refl, refl), (refl, refl, refl), (refl, refl, refl), (refl, refl, refl)),
+          )
+          then (refl, refl)
+          then (refl, refl)
+          then ticks-behind loosest fresh (upToClock 255) refl refl
+          then refl
+          then refl
+          then refl
+          then (refl, refl)
+          then tt;
       rejoining = λ l. record { stricter = l; trips = refl; rejoins = refl; lax-runs = refl; strict-pulses = refl; lax-pulses = refl };
     }
 

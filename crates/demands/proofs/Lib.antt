@@ -5,6 +5,7 @@ pub mod Rows
 pub mod ReadsBack
 pub mod WritesBack
 pub mod RestUnused
+pub mod Silence
 pub mod Computed
 pub mod Answers
 pub mod Filed

@@ -1,7 +1,7 @@
 -- Laws of a choice by state. Assumes nothing.
 use Prim.Native.Nat.{ℕ, zero, suc}
 use mathlib.Core.Bool.{true, false}
-use mathlib.Core.Path.{_≡_, refl}
+use mathlib.Core.Path.{_≡_, refl, sym}
 use native.Mathlib.Omega.{arith}
 use lib.Dec.{leb}
 use borrow.Author.Tests.{le-leb}
@@ -24,3 +24,9 @@ pub tripped-is : (k : ℕ) → leb 2 k ≡ byState k false false true
 tripped-is zero = refl
 tripped-is (suc zero) = refl
 tripped-is (suc (suc k)) = le-leb 2 (suc (suc k)) (omega arith)
+
+-- tripped: not running
+pub tripped-rests : (k : ℕ) → byState k false false true ≡ true → byState k false true false ≡ false
+tripped-rests zero e = refl
+tripped-rests (suc zero) e = sym e
+tripped-rests (suc (suc k)) e = refl

@@ -3,13 +3,13 @@ use mathlib.Core.Bool.{true}
 use mathlib.Core.Path.{_≡_, refl}
 use Rattle.model.specs.State.{fresh}
 use Rattle.model.specs.Good.{goodState}
-use Rattle.model.specs.Claims.{StepKeepsGood, AlwaysGood, Zeros, StepKeepsZeros, AlwaysZeros, QuietAtRest, CountsSkips, TwoPlaces, AtMostTwo}
+use Rattle.model.specs.Claims.{StepKeepsGood, AlwaysGood, Zeros, StepKeepsZeros, AlwaysZeros, QuietAtRest, SilentOnceTripped, CountsSkips, TwoPlaces, AtMostTwo}
 use Rattle.model.proofs.GoodStates.{state-facts, state-good}
 use Rattle.model.proofs.Cases.{always}
 use Rattle.model.proofs.Runs.{watchdog-pos}
 use Rattle.model.proofs.Steps.{step-good, fresh-good}
 use Rattle.model.proofs.Zeros.{step-zero}
-use Rattle.model.proofs.Quiet.{quiet-tick}
+use Rattle.model.proofs.Quiet.{quiet-tick, stays-silent}
 use Rattle.model.proofs.Turn.{skips}
 use Rattle.model.proofs.Places.{two-pulses}
 use Rattle.model.proofs.Few.{step-releases, few}
@@ -28,6 +28,9 @@ always-zeros p = always Zeros p (step-keeps-zeros p) fresh (λ e. refl)
 
 pub quiet-at-rest : QuietAtRest
 quiet-at-rest = quiet-tick
+
+pub silent-once-tripped : SilentOnceTripped
+silent-once-tripped = stays-silent
 
 pub counts-skips : CountsSkips
 counts-skips = skips

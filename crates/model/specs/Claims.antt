@@ -4,7 +4,7 @@ use mathlib.Core.Bool.{true, false, cond}
 use mathlib.Core.Path.{_≡_}
 use mathlib.Core.List.{List, [], _∷_, _++_}
 use lib.Dec.{ltb}
-use lib.ListN.{length, getD}
+use lib.ListN.{length, getD, replicate}
 use Rattle.commands.specs.declared.Init.{Init}
 use Rattle.commands.specs.declared.Setting.{Setting}
 use Rattle.commands.specs.Commands.{noSetting}
@@ -15,10 +15,10 @@ use Rattle.model.specs.Profiles.{goodProfile}
 use Rattle.model.specs.Channels.{inSet}
 use Rattle.model.specs.Timing.{keepsModules}
 use Rattle.model.specs.Slots.{inTurn, firstDue}
-use Rattle.model.specs.State.{State, isRunning, still, fresh}
+use Rattle.model.specs.State.{State, isRunning, isTripped, still, fresh}
 use Rattle.model.specs.Effects.{pulse}
 use Rattle.model.specs.Ticks.{releases}
-use Rattle.model.specs.Machine.{Call, Call.tick, step, after}
+use Rattle.model.specs.Machine.{Call, Call.tick, Outcome, step, after, run}
 use Rattle.model.specs.Good.{goodState}
 
 -- a call leaves a good state good, and so a box grown from a fresh one by any calls is good
@@ -43,6 +43,18 @@ abbrev pub QuietAtRest : Type 0
 QuietAtRest =
     (p : Profile) (s : State) → isRunning (s .core) ≡ false
     → (step p s tick .records ≡ []) × (isRunning (step p s tick .state .core) ≡ false)
+
+-- a tripped box stays tripped under ticks alone, however many, those at the clock's end among them, and releases nothing
+abbrev pub Silent : List Outcome → Type 0
+Silent [] = Unit
+Silent (o ∷ os) = (o .records ≡ []) × Silent os
+
+pub record StaysSilent (p : Profile) (s : State) (n : ℕ) : Type 0 where
+  pub still-tripped : isTripped (after p s (replicate n tick) .core) ≡ true
+  pub silent : Silent (run p s (replicate n tick))
+
+abbrev pub SilentOnceTripped : Type 0
+SilentOnceTripped = (p : Profile) (s : State) → isTripped (s .core) ≡ true → (n : ℕ) → StaysSilent p s n
 
 -- N_Factor counts skips: a low frequency channel lets so many cycles pass, pulses in the next, and begins again
 pub record Skips (v : Init) (i : ℕ) : Type 0 where
