@@ -24,20 +24,20 @@ pub data Way (s : State) (r : Result) : Type 0 where
   answers : r .answer ≤ 10 → Way s r
   ends : r ≡ record { state = s; answer = 15; reply = 0; records = [] } → Way s r
 
--- each answer of a row of tests is at most n, and so is the first's
-abbrev allMost : ℕ → List Test → Bool
-allMost n [] = true
-allMost n (t ∷ ts) = leb (t .answer) n && allMost n ts
+-- what is true of 0 and of each answer of a row of tests is true of the first's
+abbrev allPass : (ℕ → Bool) → List Test → Bool
+allPass f [] = true
+allPass f (t ∷ ts) = f (t .answer) && allPass f ts
 
-first-most : (n : ℕ) (ts : List Test) → allMost n ts ≡ true → firstOf ts ≤ n
-first-most n [] h = omega arith
-first-most n (t ∷ ts) h =
-    let b = both (leb (t .answer) n) (allMost n ts) h in
-    either-way (t .holds) (λ e. rw e (leb-true (t .answer) n (b .0))) (λ e. rw e (first-most n ts (b .1)))
+pub first-passes : (f : ℕ → Bool) (ts : List Test) → f 0 ≡ true → allPass f ts ≡ true → f (firstOf ts) ≡ true
+first-passes f [] z h = z
+first-passes f (t ∷ ts) z h =
+    let b = both (f (t .answer)) (allPass f ts) h in
+    either-way (t .holds) (λ e. rw e (b .0)) (λ e. rw e (first-passes f ts z (b .1)))
 
 judge-most : (p : Profile) (m : Core) (k : ℕ) (c : Command) → judge p m k c ≤ 10
 unfolding judge refusals
-judge-most p m k c = first-most 10 (refusals m k c ++ 9 when overLimit p m c ∷ []) refl
+judge-most p m k c = leb-true _ 10 (first-passes (λ a. leb a 10) (refusals m k c ++ 9 when overLimit p m c ∷ []) refl refl)
 
 taken-most : (p : Profile) (s : State) (x : Arrival) → taken p s x .answer ≤ 10
 unfolding taken judged decided
@@ -46,9 +46,13 @@ taken-most p s alone = either-way (isTripped (s .core)) (λ e. rw e (lit≤ tt))
 taken-most p s (growing q) = lit≤ tt
 taken-most p s (whole bytes) = judge-most p (s .core) _ _
 
-pub way : (p : Profile) (s : State) (c : Call) → Way s (step p s c)
+pub byte-most : (p : Profile) (s : State) (n : ℕ) → step p s (byte n) .answer ≤ 10
 unfolding step byteStep
-way p s (byte n) = answers (taken-most p s (arrive (s .core) (s .partial) n))
+byte-most p s n = taken-most p s (arrive (s .core) (s .partial) n)
+
+pub way : (p : Profile) (s : State) (c : Call) → Way s (step p s c)
+unfolding step
+way p s (byte n) = answers (byte-most p s n)
 way p s tick = tick-cases (Way s) p s (ends refl) (λ _. answers (lit≤ tt))
 
 -- no step is answered 12, 13 or 14

@@ -1,11 +1,11 @@
 -- What is written for a good command reads back as that command. Assumes nothing.
-use Prim.Native.Nat.{ℕ, suc, _+_, _-_, _*_, _^_, _<_}
+use Prim.Native.Nat.{ℕ, suc, _+_, _-_, _*_, _^_, _≤_, _<_}
 use mathlib.Core.Bool.{true}
 use mathlib.Core.Path.{_≡_, refl, sym, ap, _∙_}
 use mathlib.Core.List.{List, [], _∷_, _++_, append-assoc}
 use native.Mathlib.Omega.{arith}
 use native.Mathlib.Nat.{mod-lt}
-use lib.ListN.{length, take, drop, replicate}
+use lib.ListN.{length, getD, take, drop, replicate}
 use lib.Seq.{length-take-le}
 use Rattle.bits.specs.Fields.{field}
 use Rattle.commands.specs.declared.Init.{Init}
@@ -38,19 +38,41 @@ reads-as s count c h e k g =
 
 -- ---- Init
 
-init-back : (w : ℕ) (v : Init) (rest : List ℕ) (count : ℕ)
-    → NumberOf w (check (init v)) v → goodInit v ≡ true → goodCount count ≡ true
-    → readFrame (initBytes w ++ rest) count ≡ found (init v)
-init-back w v rest count n g t =
+-- the six bytes of its number hold it, and its Check
+pub record InitThere (s : List ℕ) (v : Init) : Type 0 where
+  pub first : 128 ≤ getD s 0 0
+  pub ident-0 : identIn s ≡ 0
+  pub command : (count : ℕ) → commandIn s count ≡ init v
+  pub checked : checkIn s ≡ check (init v)
+
+pub init-number : (v : Init) → Held (init v) → good (init v) ≡ true → NumberOf (initNumber (check (init v)) v) (check (init v)) v
+init-number v held g =
+    let k = check (init v) in
+    let hk : k < 2 ^ 3 = mod-lt (v .factor + v .stim + v .lf + v .group + v .main) (omega arith) in
+    number-of k v hk (init-fits v g) (held .0) (held .1)
+
+pub init-there : (w : ℕ) (v : Init) (rest : List ℕ) → NumberOf w (check (init v)) v → InitThere (initBytes w ++ rest) v
+init-there w v rest n =
     let s = initBytes w ++ rest in
-    let low = field w 28 7 ∷ field w 21 7 ∷ field w 14 7 ∷ field w 7 7 ∷ field w 0 7 ∷ [] in
     let least = n .high-bit in
     let most = n .ident-bits in
     let i : identIn s ≡ 0 = omega arith in
     let word = six-word w rest in
-    reads-as s count (init v) (framed (field w 35 8) low rest count t (omega arith) (omega arith) (rw i))
-    (init-here s count i ∙ ap (λ (x : ℕ). init (initOf x)) word ∙ ap init (n .init-bits))
-    (check-3 s i ∙ ap (λ (x : ℕ). field x 37 3) word ∙ n .check-bits) g
+    record {
+      first = omega arith;
+      ident-0 = i;
+      command = λ count. init-here s count i ∙ ap (λ (x : ℕ). init (initOf x)) word ∙ ap init (n .init-bits);
+      checked = check-3 s i ∙ ap (λ (x : ℕ). field x 37 3) word ∙ n .check-bits;
+    }
+
+init-back : (w : ℕ) (v : Init) (rest : List ℕ) (count : ℕ)
+    → NumberOf w (check (init v)) v → goodInit v ≡ true → goodCount count ≡ true
+    → readFrame (initBytes w ++ rest) count ≡ found (init v)
+init-back w v rest count n g t =
+    let low = field w 28 7 ∷ field w 21 7 ∷ field w 14 7 ∷ field w 7 7 ∷ field w 0 7 ∷ [] in
+    let h = init-there w v rest n in
+    reads-as (initBytes w ++ rest) count (init v) (framed (field w 35 8) low rest count t (h .first) (omega arith) (rw (h .ident-0)))
+    (h .command count) (h .checked) g
 
 -- ---- Single
 
@@ -108,10 +130,7 @@ update-back count entries k rest len hk e g =
 -- ---- any command
 
 frame-back : (c : Command) → Held c → good c ≡ true → (count : ℕ) → Told count c → (rest : List ℕ) → readFrame (frame c ++ rest) count ≡ found c
-frame-back (init v) held g count told rest =
-    let k = check (init v) in
-    let hk : k < 2 ^ 3 = mod-lt (v .factor + v .stim + v .lf + v .group + v .main) (omega arith) in
-    init-back (initNumber k v) v rest count (number-of k v hk (init-fits v g) (held .0) (held .1)) g told
+frame-back (init v) held g count told rest = init-back (initNumber (check (init v)) v) v rest count (init-number v held g) g told
 frame-back (update own entries) held g count told rest =
     rw told (update-back own entries (check (update own entries)) rest held (mod-lt (sumAll entries) (omega arith)) refl g)
 frame-back stop held g count told rest =

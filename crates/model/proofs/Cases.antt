@@ -19,15 +19,28 @@ use Rattle.model.proofs.Tests.{either-way}
 abbrev pub quiet : Core → Done
 quiet m = record { core = m; records = [] }
 
--- a command is accepted, trips the box, is dropped for its Check, or is dropped and feeds the watchdog
+-- a command is accepted, trips the box, is dropped for its Check, or is dropped and feeds the watchdog, by its answer
+pub carry-ways : (P : Done → Type 0) (clock : ℕ) (m : Core) (c : Command) (answer : ℕ)
+    → (answer ≡ 0 → P (accept clock m c)) → (answer ≡ 9 → P (tripped clock 1 m)) → (answer ≡ 3 → P (quiet m))
+    → ((answer ≡ 0 → ⊥) → (answer ≡ 9 → ⊥) → P (quiet (withRun m (fed (m .run)))))
+    → P (carry clock m c answer)
+unfolding carry
+carry-ways P clock m c answer accepted trips dropped feeds =
+    either-way (eqb answer 0) (λ e. rw e (accepted (eqb-true answer 0 e)))
+    (λ e.
+    rw e
+    (either-way (eqb answer 9) (λ f. rw f (trips (eqb-true answer 9 f)))
+    (λ f.
+    rw f
+    (either-way (eqb answer 3) (λ g. rw g (dropped (eqb-true answer 3 g)))
+    (λ g. rw g (feeds (eqb-false answer 0 e) (eqb-false answer 9 f)))))))
+
+-- the same, where the answer does not matter once it is not 0
 pub carry-cases : (P : Done → Type 0) (clock : ℕ) (m : Core) (c : Command) (answer : ℕ)
     → (answer ≡ 0 → P (accept clock m c)) → P (tripped clock 1 m) → P (quiet m) → P (quiet (withRun m (fed (m .run))))
     → P (carry clock m c answer)
-unfolding carry
 carry-cases P clock m c answer accepted trips dropped feeds =
-    either-way (eqb answer 0) (λ e. rw e (accepted (eqb-true answer 0 e)))
-    (λ e.
-    rw e (either-way (eqb answer 9) (λ f. rw f trips) (λ f. rw f (either-way (eqb answer 3) (λ g. rw g dropped) (λ g. rw g feeds)))))
+    carry-ways P clock m c answer accepted (λ e. trips) (λ e. dropped) (λ e f. feeds)
 
 -- a box is not running, reaches the watchdog, or releases the pulses due
 pub timed-cases : (P : Done → Type 0) (p : Profile) (clock : ℕ) (m : Core)

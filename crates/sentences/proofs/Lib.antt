@@ -1,0 +1,10 @@
+pub mod Calls
+pub mod NoOther
+pub mod WhichAnswers
+pub mod FrameDropped
+pub mod Trips
+pub mod TripKeeps
+pub mod LeftOpen
+pub mod LfSteps
+pub mod LfRuns
+pub mod LfOutside

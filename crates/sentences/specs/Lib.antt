@@ -1,0 +1,5 @@
+pub mod WhichAnswers
+pub mod FrameDropped
+pub mod TripKeeps
+pub mod LeftOpen
+pub mod LfOutside
