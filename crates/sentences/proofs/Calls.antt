@@ -28,8 +28,8 @@ module _ (b : Box) (buf : List ℕ) (at : Part) where
       either-way (eqb (refusalOf b buf at) 0)
       (λ e.
       let z = eqb-true (refusalOf b buf at) 0 e in
-      let good = good-taken b (readyAnswer buf at (b .ring)) (refusalOf b buf at) refl z in
-      rw e (takes good (rw good at z)))
+      let g = good-taken b (readyAnswer buf at (b .ring)) (refusalOf b buf at) refl z in
+      rw e (takes g (rw g at z)))
       (λ e. rw e refuses)
 
   -- what is true of 0, 12, 13 and 14 is true of the number with which it is turned away

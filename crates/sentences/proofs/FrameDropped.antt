@@ -49,8 +49,8 @@ record Left (m : Core) (d : Done) : Type 0 where
 record Drops (s : State) (r : Result) : Type 0 where
   watch : ℕ
   same-state : r .state ≡ record { clock = s .clock; partial = noFrame; core = rewatched (s .core) watch }
-  ident : ℕ
-  one-record : r .records ≡ Answer (s .clock) ident (r .answer) ∷ []
+  kind : ℕ
+  one-record : r .records ≡ Answer (s .clock) kind (r .answer) ∷ []
 
 -- an answer that drops the frame is not 0 and not 9
 carry-left : (clock : ℕ) (m : Core) (c : Command) (answer : ℕ) → isOneOf dropping answer ≡ true → Left m (carry clock m c answer)
@@ -62,12 +62,12 @@ carry-left clock m c answer h =
 taken-drops : (p : Profile) (s : State) (x : Arrival) → isOneOf dropping (taken p s x .answer) ≡ true → Drops s (taken p s x)
 unfolding taken decided judged
 taken-drops p s stray h = absurd (false≢true h)
-taken-drops p s alone h = record { watch = s .core .run .watch; same-state = refl; ident = 1; one-record = refl }
+taken-drops p s alone h = record { watch = s .core .run .watch; same-state = refl; kind = 1; one-record = refl }
 taken-drops p s (growing q) h = absurd (false≢true h)
 taken-drops p s (whole bytes) h =
     let c = commandOf bytes in
     let l = carry-left (s .clock) (s .core) c (judge p (s .core) (checkIn bytes) c) h in
-    record { watch = l .watch; same-state = rw (l .same-core); ident = ident c; one-record = rw (l .no-record) }
+    record { watch = l .watch; same-state = rw (l .same-core); kind = ident c; one-record = rw (l .no-record) }
 
 step-drops : (p : Profile) (s : State) (c : Call) → isOneOf dropping (step p s c .answer) ≡ true → Drops s (step p s c)
 unfolding step byteStep
@@ -107,5 +107,5 @@ pub drops-frame : DropsFrame
 unfolding saidOf given
 drops-frame b buf at c =
     call-ways b buf at (λ r. isOneOf dropping (r .called .said .answer) ≡ true → Dropped b buf at r) c
-    (λ good ready. given-drops b buf at c ready)
+    (λ g ready. given-drops b buf at c ready)
     (λ h. not-both h (not-true _ (refusal-passes b buf at (λ a. not (isOneOf dropping a)) refl refl)))

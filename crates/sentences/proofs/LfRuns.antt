@@ -91,21 +91,21 @@ abbrev begun : List ℕ → Partial
 begun bytes = record { bytes = bytes; size = 6 }
 
 -- what was sent of a frame, and what is to come, which is low
-record Sent (done rest bytes : List ℕ) : Type 0 where
+record Progress (done rest bytes : List ℕ) : Type 0 where
   parts : done ++ rest ≡ bytes
   low : allLow rest ≡ true
 
 -- with one byte more
-sent-more : {done : List ℕ} {b : ℕ} {rest bytes : List ℕ} → Sent done (b ∷ rest) bytes → Sent (done ++ b ∷ []) rest bytes
-sent-more {done} {b} {rest} s =
+one-more : {done : List ℕ} {b : ℕ} {rest bytes : List ℕ} → Progress done (b ∷ rest) bytes → Progress (done ++ b ∷ []) rest bytes
+one-more {done} {b} {rest} s =
     record { parts = append-assoc done (b ∷ []) rest ∙ s .parts; low = both (not (high b)) (allLow rest) (s .low) .1 }
 
 -- the next byte is low, and where more are to come the frame is not whole
-first-low : {done : List ℕ} {b : ℕ} {rest bytes : List ℕ} → Sent done (b ∷ rest) bytes → high b ≡ false
+first-low : {done : List ℕ} {b : ℕ} {rest bytes : List ℕ} → Progress done (b ∷ rest) bytes → high b ≡ false
 first-low {b = b} {rest = rest} s = not-true (high b) (both (not (high b)) (allLow rest) (s .low) .0)
 
-unfinished : {done : List ℕ} {b : ℕ} {rest bytes : List ℕ} → Sent done (b ∷ rest) bytes → length bytes ≡ 6 → eqb (length done) 6 ≡ false
-unfinished {done} {b} {rest} s e = ne-eqb (length done) 6 (λ z. omega (arith, ap length (s .parts), length-append done (b ∷ rest)))
+not-whole : {done : List ℕ} {b : ℕ} {rest bytes : List ℕ} → Progress done (b ∷ rest) bytes → length bytes ≡ 6 → eqb (length done) 6 ≡ false
+not-whole {done} {b} {rest} s e = ne-eqb (length done) 6 (λ z. omega (arith, ap length (s .parts), length-append done (b ∷ rest)))
 
 module _ (p : Profile) (cs ds : List Call) (v : Init) (other : ℕ) (inside : SameInside v other) (one two : List ℕ)
     (f : InitFrame one v) (g : InitFrame two (withLf v other)) (k : Alikes p noFrame noFrame cs ds) where
@@ -120,7 +120,7 @@ module _ (p : Profile) (cs ds : List Call) (v : Init) (other : ℕ) (inside : Sa
       (decided-on p cs ds k clock 0 _ (init-alike m lf h clock v other inside (judge p m (check (init v)) (init v))))
 
   -- what is to come of the two
-  low-on : (gaps done gone rest other-rest : List ℕ) → Sent done rest one → Sent gone other-rest two → 0 < length rest
+  low-on : (gaps done gone rest other-rest : List ℕ) → Progress done rest one → Progress gone other-rest two → 0 < length rest
       → length rest ≡ length other-rest → Alikes p (begun done) (begun gone) (spaced rest gaps ++ cs) (spaced other-rest gaps ++ ds)
   unfolding run step byteStep arrive followed lengthened taken
   low-on gaps done gone [] es s t some same = absurd (omega arith)
@@ -134,8 +134,8 @@ module _ (p : Profile) (cs ds : List Call) (v : Init) (other : ℕ) (inside : Sa
   low-on gaps done gone (b ∷ b2 ∷ bs) (e ∷ e2 ∷ es) s t some same =
       ticks-on p (begun done) (begun gone) (getD gaps 0 0) _ _ cs ds
       (λ clock m lf h.
-      rw (first-low s, first-low t, unfinished (sent-more s) (f .six), unfinished (sent-more t) (g .six))
-      (then-same (low-on (drop 1 gaps) (done ++ b ∷ []) (gone ++ e ∷ []) (b2 ∷ bs) (e2 ∷ es) (sent-more s) (sent-more t) (omega arith) (omega arith) clock m lf h)))
+      rw (first-low s, first-low t, not-whole (one-more s) (f .six), not-whole (one-more t) (g .six))
+      (then-same (low-on (drop 1 gaps) (done ++ b ∷ []) (gone ++ e ∷ []) (b2 ∷ bs) (e2 ∷ es) (one-more s) (one-more t) (omega arith) (omega arith) clock m lf h)))
 
 -- an Init's frame has Ident 0
 init-ident : {bytes : List ℕ} {v : Init} → InitFrame bytes v → identIn bytes ≡ 0

@@ -41,13 +41,13 @@ module _ {numbers : List ℕ} (zero-too : isOneOf numbers 0 ≡ true) where
   pub byte-gives : allBelow 11 (isOneOf numbers) ≡ true → allOf numbers (12 ∷ 13 ∷ 14 ∷ []) ≡ true
       → (inputs : List (Box × List ℕ × Part × ℕ)) → map toByte inputs ≡ numbers → Gives toByte numbers
   unfolding given saidOf
-  byte-gives low high inputs each =
+  byte-gives below above inputs each =
       record {
         no-other = λ x.
             let b = x .0 in
             call-ways b (x .1) (x .2) (λ r. isOneOf numbers (r .called .said .answer) ≡ true) (byte (x .3))
-            (λ good ready. each-below 11 (isOneOf numbers) low _ (omega (arith, byte-most (b .profile) (stateOf b) (x .3))))
-            (refusal-passes b (x .1) (x .2) (isOneOf numbers) zero-too high);
+            (λ g ready. each-below 11 (isOneOf numbers) below _ (omega (arith, byte-most (b .profile) (stateOf b) (x .3))))
+            (refusal-passes b (x .1) (x .2) (isOneOf numbers) zero-too above);
         inputs = inputs;
         each = each;
       }
@@ -55,13 +55,13 @@ module _ {numbers : List ℕ} (zero-too : isOneOf numbers 0 ≡ true) where
   pub tick-gives : isOneOf numbers 15 ≡ true → allOf numbers (12 ∷ 13 ∷ 14 ∷ []) ≡ true
       → (inputs : List (Box × List ℕ × Part)) → map toTick inputs ≡ numbers → Gives toTick numbers
   unfolding given saidOf step
-  tick-gives end high inputs each =
+  tick-gives end above inputs each =
       record {
         no-other = λ x.
             let b = x .0 in
             call-ways b (x .1) (x .2) (λ r. isOneOf numbers (r .called .said .answer) ≡ true) tick
-            (λ good ready. tick-cases (λ r. isOneOf numbers (r .answer) ≡ true) (b .profile) (stateOf b) end (λ moves. zero-too))
-            (refusal-passes b (x .1) (x .2) (isOneOf numbers) zero-too high);
+            (λ g ready. tick-cases (λ r. isOneOf numbers (r .answer) ≡ true) (b .profile) (stateOf b) end (λ moves. zero-too))
+            (refusal-passes b (x .1) (x .2) (isOneOf numbers) zero-too above);
         inputs = inputs;
         each = each;
       }
@@ -69,22 +69,22 @@ module _ {numbers : List ℕ} (zero-too : isOneOf numbers 0 ≡ true) where
   pub readout-gives : allOf numbers (12 ∷ 13 ∷ 14 ∷ 16 ∷ []) ≡ true
       → (inputs : List (Box × List ℕ × Part × ℕ)) → map toReadout inputs ≡ numbers → Gives toReadout numbers
   unfolding readoutOf readOut readoutAnswer
-  readout-gives high inputs each =
+  readout-gives above inputs each =
       record {
         no-other = λ x.
             either-way (goodBox (x .0))
-            (λ e. rw (e, toReadout) (first-passes (isOneOf numbers) (readoutTests (x .1) (x .2) (x .0 .ring) (x .3)) zero-too high))
-            (λ e. rw (e, toReadout) (both (isOneOf numbers 12) _ high .0));
+            (λ e. rw (e, toReadout) (first-passes (isOneOf numbers) (readoutTests (x .1) (x .2) (x .0 .ring) (x .3)) zero-too above))
+            (λ e. rw (e, toReadout) (both (isOneOf numbers 12) _ above .0));
         inputs = inputs;
         each = each;
       }
 
   pub making-gives : allOf numbers (11 ∷ 13 ∷ []) ≡ true → (inputs : List (Profile × ℕ)) → map toMaking inputs ≡ numbers → Gives toMaking numbers
   unfolding makeOf
-  making-gives high inputs each =
+  making-gives above inputs each =
       record {
         no-other = λ x.
-            first-passes (isOneOf numbers) (11 when not (goodProfile (x .0)) ∷ 13 when not (goodCapacity (x .1)) ∷ []) zero-too high;
+            first-passes (isOneOf numbers) (11 when not (goodProfile (x .0)) ∷ 13 when not (goodCapacity (x .1)) ∷ []) zero-too above;
         inputs = inputs;
         each = each;
       }
@@ -92,24 +92,24 @@ module _ {numbers : List ℕ} (zero-too : isOneOf numbers 0 ≡ true) where
   pub reader-gives : allOf numbers (4 ∷ 1 ∷ 2 ∷ 1 ∷ 17 ∷ 3 ∷ 4 ∷ []) ≡ true
       → (inputs : List (List ℕ × ℕ)) → map ofReader inputs ≡ numbers → Gives ofReader numbers
   unfolding readFrame
-  reader-gives high inputs each =
+  reader-gives above inputs each =
       record {
         no-other = λ x.
             let c : Command = commandIn (x .0) (x .1) in
             let ts : List Test = shapeTests (x .0) (x .1) ++ valueTests (checkIn (x .0)) c in
             either-way (eqb (firstOf ts) 0)
             (λ e. rw (e, ofReader) zero-too)
-            (λ e. rw (e, ofReader) (first-passes (isOneOf numbers) ts zero-too high));
+            (λ e. rw (e, ofReader) (first-passes (isOneOf numbers) ts zero-too above));
         inputs = inputs;
         each = each;
       }
 
   pub writer-gives : allOf numbers (4 ∷ 16 ∷ []) ≡ true → (inputs : List (Command × List ℕ)) → map ofWriter inputs ≡ numbers → Gives ofWriter numbers
   unfolding wrote
-  writer-gives high inputs each =
+  writer-gives above inputs each =
       record {
         no-other = λ x.
-            first-passes (isOneOf numbers) (4 when not (good (x .0)) ∷ 16 when ltb (length (x .1)) (size (x .0)) ∷ []) zero-too high;
+            first-passes (isOneOf numbers) (4 when not (good (x .0)) ∷ 16 when ltb (length (x .1)) (size (x .0)) ∷ []) zero-too above;
         inputs = inputs;
         each = each;
       }

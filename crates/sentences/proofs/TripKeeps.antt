@@ -28,17 +28,17 @@ module _ (b : Box) (buf : List ℕ) (at : Part) (bytes : length (b .partial .byt
       record {
         by-tick = λ u.
             call-ways b buf at (λ r. isTripped (r .called .next .core) ≡ true → KeptByTick b (r .called .next)) tick
-            (λ good ready t.
+            (λ g ready t.
             let k = tick-trips (b .profile) (stateOf b) (u .0) t in
-            record { partial = ap frameOf (k .partial) ∙ frame-back (b .partial) bytes (box-facts b good .unused); holda = k .holda; holdb = k .holdb })
+            record { partial = ap frameOf (k .partial) ∙ frame-back (b .partial) bytes (box-facts b g .unused); holda = k .holda; holdb = k .holdb })
             (λ t. not-both t (u .0)) (u .1);
         by-byte = λ n u.
             call-ways b buf at (λ r. isTripped (r .called .next .core) ≡ true → r .called .said .answer ≡ 9) (byte n)
-            (λ good ready. byte-trips (b .profile) (stateOf b) n (u .0))
+            (λ g ready. byte-trips (b .profile) (stateOf b) n (u .0))
             (λ t. not-both t (u .0)) (u .1);
         at-9 = λ n.
             call-ways b buf at (λ r. r .called .said .answer ≡ 9 → KeptAt9 b (r .called .next)) (byte n)
-            (λ good ready h.
+            (λ g ready h.
             let k = byte-9 (b .profile) (stateOf b) n h in
             record { down = k .down; holda = k .holda; holdb = k .holdb; no-frame = rw (k .partial) })
             (λ h. not-both (eq-eqb _ 9 h) (not-true _ (refusal-passes b buf at (λ a. not (eqb a 9)) refl refl)));

@@ -4,8 +4,8 @@ use mathlib.Core.Path.{refl}
 use mathlib.Core.List.{List, [], _∷_, _++_}
 use lib.ListN.{take, getD, replicate}
 use Rattle.bits.specs.High.{firstHigh}
-use Rattle.commands.specs.Commands.{Command, Command.stop, sumAll, goodEntries}
-use Rattle.frames.specs.Layout.{initWord, entryIn, settingsIn, entriesIn, commandIn, checkIn}
+use Rattle.commands.specs.Commands.{Command, Command.stop}
+use Rattle.frames.specs.Layout.{initWord, entryIn, commandIn, checkIn}
 use Rattle.frames.specs.Bytes.{size, frame}
 use Rattle.frames.specs.Reader.{readFrame}
 use Rattle.writers.specs.Writer.{wrote}
@@ -17,13 +17,12 @@ use Rattle.trace.specs.Ring.{goodRing, goodPart, readyAnswer, readoutAnswer, re
 use Rattle.model.specs.declared.Profile.{Profile}
 use Rattle.model.specs.Channels.{inSet, many}
 use Rattle.model.specs.Timing.{t1, t2, keepsModules, keepsMain, largestMode}
-use Rattle.model.specs.Slots.{felt}
 use Rattle.model.specs.Profiles.{goodProfile, overAt, overLimits}
 use Rattle.model.specs.State.{fresh}
 use Rattle.model.specs.Judgement.{asked, breaksTiming, inHold, overLimit, refusals, judge}
 use Rattle.model.specs.Effects.{accept, carry}
 use Rattle.model.specs.Arrival.{lengthened, opened, followed, arrive, decided, judged, taken, byteStep}
-use Rattle.model.specs.Ticks.{lastClock, timed, tickStep}
+use Rattle.model.specs.Ticks.{lastClock, tickStep}
 use Rattle.model.specs.Machine.{Call, Call.byte, step, after}
 use Rattle.model.specs.Good.{goodAt, settingFits, fits, goodRun, zeroRun, goodCore, goodSize, goodPartial, goodState}
 use Rattle.partial.specs.Partial.{frameOf, zeros, unusedZero}
@@ -64,7 +63,7 @@ abbrev aSingle : Command
 aSingle = singleOf 1 200 20
 
 pub answers-given : AnswersGiven
-unfolding firstHigh sumAll goodEntries initWord entryIn settingsIn entriesIn commandIn checkIn readFrame wrote sizeOf splitsAfter turned content goodRing goodPart readyAnswer readoutAnswer readOut inSet many t1 t2 keepsModules keepsMain largestMode felt goodProfile overAt overLimits asked breaksTiming inHold overLimit refusals judge accept carry lengthened opened followed arrive decided judged taken byteStep timed tickStep step after goodAt settingFits fits goodRun zeroRun goodCore goodSize goodPartial goodState frameOf zeros unusedZero stateOf boxOf goodBox saidOf makeOf given callOf readoutOf
+unfolding firstHigh initWord entryIn commandIn checkIn readFrame wrote sizeOf splitsAfter turned content goodRing goodPart readyAnswer readoutAnswer readOut inSet many t1 t2 keepsModules keepsMain largestMode goodProfile overAt overLimits asked breaksTiming inHold overLimit refusals judge accept carry lengthened opened followed arrive decided judged taken byteStep tickStep step after goodAt settingFits fits goodRun zeroRun goodCore goodSize goodPartial goodState frameOf zeros unusedZero stateOf boxOf goodBox saidOf makeOf given callOf readoutOf
 answers-given =
     record {
       byte-gives = byte-gives refl refl refl

@@ -28,7 +28,7 @@ pub record KeptAt9 (b d : Box) : Type 0 where
   pub holdb : d .core .holdb ≡ b .core .holdb
   pub no-frame : partialOf (d .partial) ≡ noFrame
 
--- there is no other trip
+-- a box trips by a tick, or with 9
 pub record TripKeeps (b : Box) (buf : List ℕ) (at : Part) : Type 0 where
   pub by-tick : Trips b buf at tick → KeptByTick b (callOf b buf at tick .called .next)
   pub by-byte : (n : ℕ) → Trips b buf at (byte n) → callOf b buf at (byte n) .called .said .answer ≡ 9
