@@ -10,6 +10,7 @@ use Rattle.model.specs.Channels.{inSet, many, placed}
 use Rattle.model.specs.Timing.{t1, t2, keepsModules, keepsMain, largestMode}
 use Rattle.model.specs.Slots.{slot, inTurn, felt, hits, due}
 use Rattle.model.specs.Profiles.{NowhereLooser, goodProfile, overAt, overLimits}
+use Rattle.model.specs.State.{fresh}
 use Rattle.model.specs.Judgement.{asked, breaksTiming, inHold, overLimit, refusals, judge}
 use Rattle.model.specs.Effects.{accept, carry}
 use Rattle.model.specs.Arrival.{lengthened, opened, followed, arrive, decided, judged, taken, byteStep}
@@ -18,7 +19,6 @@ use Rattle.model.specs.Machine.{step, run, after}
 use Rattle.model.specs.Good.{allGood, runInRange, inRange, onlyListed, unlistedZero, keepsTiming, keepsProfile, zeroRun, goodSize, goodPartial}
 use Rattle.partial.specs.Partial.{frameOf, zeros, unusedZero}
 use Rattle.record.specs.Box.{stateOf, boxOf, goodBox}
-use Rattle.said.specs.Said.{pulseOf, saidOf}
 use Rattle.outcome.specs.Claims.{pulsesIn}
 use Rattle.calls.specs.Making.{makeOf}
 use Rattle.calls.specs.Filed.{filed}
@@ -46,7 +46,7 @@ _then_ : {A B : Type 0} → A → B → A × B
 a then b = (a, b)
 
 pub computed : Computed
-unfolding cases firstHigh sumAll goodEntries initWord entryIn settingsIn entriesIn commandIn checkIn settingsBytes readFrame wrote written inSet many placed t1 t2 keepsModules keepsMain largestMode slot inTurn felt hits due overAt overLimits asked breaksTiming inHold overLimit refusals judge accept carry lengthened opened followed arrive decided judged taken byteStep moved releases watched timed tickStep step run after pulsesIn goodProfile allGood runInRange inRange onlyListed unlistedZero keepsTiming keepsProfile zeroRun goodSize goodPartial stateOf frameOf boxOf zeros unusedZero goodBox pulseOf saidOf makeOf filed callOf calls.given readoutOf readoutBytes sizeOf joined splitsAfter recordsAfter tailWithin kept around fromStart content storedRound goodRing goodPart withPart placeAnswer readyAnswer readoutAnswer roomFor pushedRing pushedPart pushed pushedBuf readOut readBytes onward given
+unfolding cases firstHigh sumAll goodEntries initWord entryIn settingsIn entriesIn commandIn checkIn settingsBytes readFrame wrote written inSet many placed t1 t2 keepsModules keepsMain largestMode slot inTurn felt hits due overAt overLimits asked breaksTiming inHold overLimit refusals judge accept carry lengthened opened followed arrive decided judged taken byteStep moved releases watched timed tickStep step run after pulsesIn goodProfile allGood runInRange inRange onlyListed unlistedZero keepsTiming keepsProfile zeroRun goodSize goodPartial stateOf frameOf boxOf zeros unusedZero goodBox makeOf filed callOf calls.given readoutOf readoutBytes sizeOf joined splitsAfter recordsAfter tailWithin kept around fromStart content storedRound goodRing goodPart withPart placeAnswer readyAnswer readoutAnswer roomFor pushedRing pushedPart pushed pushedBuf readOut readBytes onward given
 computed =
     record {
       claimed =

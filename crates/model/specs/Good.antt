@@ -66,9 +66,11 @@ unlistedZero r = onlyListed (r .list .stim) (r .settings) && onlyListed (r .list
 
 -- ---- "a running list with its settings and its waiting update keeps both timing rules and the profile"
 
+-- Init's rules, and Update's with each row of settings
 unfoldable pub keepsTiming : Run → Bool
 keepsTiming r = initTiming (r .list) && updateTiming (r .list) (r .settings) && updateTiming (r .list) (r .waiting)
 
+-- t1 is not below the shortest, and no setting is over a limit
 abbrev pub keepsShortest : Profile → Init → Bool
 keepsShortest p v = leb (p .shortest) (t1 (v .main))
 
