@@ -12,7 +12,7 @@ use Rattle.writers.specs.Writer.{wrote}
 use Rattle.trace.specs.declared.Part.{Part}
 use Rattle.trace.specs.Records.{sizeOf}
 use Rattle.trace.specs.Rows.{splitsAfter}
-use Rattle.trace.specs.Round.{turned, content}
+use Rattle.trace.specs.Round.{fromStart, content}
 use Rattle.trace.specs.Ring.{goodRing, goodPart, readyAnswer, readoutAnswer, readOut}
 use Rattle.model.specs.declared.Profile.{Profile}
 use Rattle.model.specs.Channels.{inSet, many}
@@ -24,7 +24,7 @@ use Rattle.model.specs.Effects.{accept, carry}
 use Rattle.model.specs.Arrival.{lengthened, opened, followed, arrive, decided, judged, taken, byteStep}
 use Rattle.model.specs.Ticks.{lastClock, tickStep}
 use Rattle.model.specs.Machine.{Call, Call.byte, step, after}
-use Rattle.model.specs.Good.{goodAt, settingFits, fits, goodRun, zeroRun, goodCore, goodSize, goodPartial, goodState}
+use Rattle.model.specs.Good.{allGood, runInRange, inRange, onlyListed, unlistedZero, keepsTiming, keepsProfile, zeroRun, goodSize, goodPartial}
 use Rattle.partial.specs.Partial.{frameOf, zeros, unusedZero}
 use Rattle.record.specs.declared.Box.{Box}
 use Rattle.record.specs.Box.{stateOf, boxOf, goodBox}
@@ -63,7 +63,7 @@ abbrev aSingle : Command
 aSingle = singleOf 1 200 20
 
 pub answers-given : AnswersGiven
-unfolding firstHigh initWord entryIn commandIn checkIn readFrame wrote sizeOf splitsAfter turned content goodRing goodPart readyAnswer readoutAnswer readOut inSet many t1 t2 keepsModules keepsMain largestMode goodProfile overAt overLimits asked breaksTiming inHold overLimit refusals judge accept carry lengthened opened followed arrive decided judged taken byteStep tickStep step after goodAt settingFits fits goodRun zeroRun goodCore goodSize goodPartial goodState frameOf zeros unusedZero stateOf boxOf goodBox saidOf makeOf given callOf readoutOf
+unfolding firstHigh initWord entryIn commandIn checkIn readFrame wrote sizeOf splitsAfter fromStart content goodRing goodPart readyAnswer readoutAnswer readOut inSet many t1 t2 keepsModules keepsMain largestMode goodProfile overAt overLimits asked breaksTiming inHold overLimit refusals judge accept carry lengthened opened followed arrive decided judged taken byteStep tickStep step after allGood runInRange inRange onlyListed unlistedZero keepsTiming keepsProfile zeroRun goodSize goodPartial frameOf zeros unusedZero stateOf boxOf goodBox saidOf makeOf given callOf readoutOf
 answers-given =
     record {
       byte-gives = byte-gives refl refl refl
