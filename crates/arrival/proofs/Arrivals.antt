@@ -26,8 +26,8 @@ use Rattle.model.proofs.States.{not-running, tripped-is}
 use Rattle.partial.proofs.Carries.{frame-back}
 use Rattle.record.proofs.Carries.{back}
 use Rattle.said.specs.Said.{pulseOf, saidOf}
-use Rattle.outcome.specs.Step.{refused, carried}
-use Rattle.decided.specs.Given.{given}
+use Rattle.outcome.specs.Step.{refusedStep, carried}
+use Rattle.decided.specs.ByValue.{byValue}
 use Rattle.effects.specs.Deciding.{decideFrame, Whole}
 use Rattle.effects.proofs.Judged.{whole-decided}
 use Rattle.arrival.specs.Arriving.{grown, unfinished, settled}
@@ -38,12 +38,12 @@ use Rattle.arrival.proofs.Wholes.{finished-whole}
 
 -- a decided command closes the frame
 pub settled-as : (b : Box) (k answer : ℕ) (d : Done)
-    → settled b (given (decided (b .clock) k answer d)) ≡ carried b (decided (b .clock) k answer d)
-unfolding given carried decided boxOf
+    → settled b (byValue (decided (b .clock) k answer d)) ≡ carried b (decided (b .clock) k answer d)
+unfolding byValue carried decided boxOf
 settled-as b k answer d = refl
 
 pub whole-settled : (b : Box) (s : List ℕ) → Whole s
-    → settled b (given (decideFrame (b .profile) (b .clock) (b .core) s)) ≡ carried b (taken (b .profile) (stateOf b) (whole s))
+    → settled b (byValue (decideFrame (b .profile) (b .clock) (b .core) s)) ≡ carried b (taken (b .profile) (stateOf b) (whole s))
 unfolding judged taken stateOf
 whole-settled b s w = rw (whole-decided (b .profile) (b .clock) (b .core) s w) (settled-as b _ _ _)
 
@@ -118,7 +118,7 @@ module _ (b : Box) (l : length (b .partial .bytes) ≡ 25) (g : goodBox b ≡ tr
   good-partial = box-facts b g .state .partial
 
   -- no frame is open: a stray
-  pub strays : b .partial .len ≡ 0 → refused 2 b ≡ carried b (taken (b .profile) (stateOf b) (followed (partialOf (b .partial)) n))
+  pub strays : b .partial .len ≡ 0 → refusedStep 2 b ≡ carried b (taken (b .profile) (stateOf b) (followed (partialOf (b .partial)) n))
   unfolding followed taken carried saidOf pulseOf goodPartial stateOf
   strays e =
       let none : eqb (b .partial .kept) 0 ≡ true = rw e at good-partial in

@@ -13,23 +13,23 @@ use Rattle.record.specs.declared.Box.{Box}
 use Rattle.record.specs.Box.{stateOf, boxOf}
 use Rattle.outcome.specs.declared.Stepped.{Stepped}
 use Rattle.said.specs.Said.{recordsOf}
-use Rattle.outcome.specs.Step.{refused, carried, stepOf}
+use Rattle.outcome.specs.Step.{refusedStep, carried, stepOf}
 use Rattle.outcome.specs.Claims.{row}
 use Rattle.outcome.proofs.Theorems.{none-lost}
 use Rattle.calls.specs.declared.Called.{Called}
 use Rattle.calls.specs.Filed.{filed}
 use Rattle.calls.specs.Finished.{finished}
-use Rattle.calls.specs.Calls.{refusalOf, turnedAway, given, callOf}
+use Rattle.calls.specs.Calls.{refusalOf, turnedAway, stepFiled, callOf}
 use Rattle.calls.specs.Claims.{CallIsStep}
 
 module _ (b : Box) (buf : List ℕ) (at : Part) where
   -- a step that loses no record
-  taken : (r : Result) → row (recordsOf (r .records)) ≡ r .records → finished buf at (carried b r) ≡ given b buf at r
-  unfolding finished given carried boxOf
+  taken : (r : Result) → row (recordsOf (r .records)) ≡ r .records → finished buf at (carried b r) ≡ stepFiled b buf at r
+  unfolding finished stepFiled carried boxOf
   taken r e = rw e
 
   -- a refusal has no record
-  left : (answer : ℕ) → finished buf at (refused answer b) ≡ turnedAway b buf answer
+  left : (answer : ℕ) → finished buf at (refusedStep answer b) ≡ turnedAway b buf answer
   unfolding finished filed
   left answer = refl
 

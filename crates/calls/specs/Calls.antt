@@ -14,7 +14,7 @@ use Rattle.model.specs.Machine.{Call, step}
 use Rattle.record.specs.declared.Box.{Box}
 use Rattle.record.specs.Box.{stateOf, boxOf}
 use Rattle.said.specs.Said.{saidOf}
-use Rattle.outcome.specs.Step.{refusal, refused}
+use Rattle.outcome.specs.Step.{refusal, refusedStep}
 use Rattle.calls.specs.Filed.{Filed, filed, Answered}
 
 -- 12, 13 or 14, else 0
@@ -23,16 +23,16 @@ refusalOf b buf at = refusal b (readyAnswer buf at (b .ring))
 
 -- a refusal leaves all
 abbrev pub turnedAway : Box → List ℕ → ℕ → Answered
-turnedAway b buf answer = record { called = record { said = refused answer b .said; next = b }; buf = buf }
+turnedAway b buf answer = record { called = record { said = refusedStep answer b .said; next = b }; buf = buf }
 
 -- what the step says, the record that carries its state, and the ring with its records
-unfoldable pub given : Box → List ℕ → Part → Result → Answered
-given b buf at r =
+unfoldable pub stepFiled : Box → List ℕ → Part → Result → Answered
+stepFiled b buf at r =
     let f : Filed = filed at (b .ring) buf (r .records) in
     record { called = record { said = saidOf r; next = boxOf (b .profile) (f .ring) (r .state) }; buf = f .buf }
 
 unfoldable pub callOf : Box → List ℕ → Part → Call → Answered
 callOf b buf at c =
     cond (eqb (refusalOf b buf at) 0)
-    (given b buf at (step (b .profile) (stateOf b) c))
+    (stepFiled b buf at (step (b .profile) (stateOf b) c))
     (turnedAway b buf (refusalOf b buf at))

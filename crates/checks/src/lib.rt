@@ -4,10 +4,10 @@ use commands::Setting;
 use commands::Single;
 ghost use mathlib.Core.Path.{_≡_};
 ghost use Prim.Native.Nat.{_%_, _<_};
-ghost use Rattle.commands.specs.Commands.{Command.init, Command.single, settingSum, sumAll, check};
+ghost use Rattle.commands.specs.Commands.{Command.init, Command.single, settingSum, sumAll, checkOf};
 
 pub fn check_init(v: Init) -> u64
-    ensures { λ r. ⌜ r ≡ check (init v) ⌝ }
+    ensures { λ r. ⌜ r ≡ checkOf (init v) ⌝ }
 {
     (v.factor as u64 + v.stim as u64 + v.lf as u64 + v.group as u64 + v.main as u64) % 8
 }
@@ -32,7 +32,7 @@ pub fn check_update(entries: [Setting; 8]) -> u64
 }
 
 pub fn check_single(v: Single) -> u64
-    ensures { λ r. ⌜ r ≡ check (single v) ⌝ }
+    ensures { λ r. ⌜ r ≡ checkOf (single v) ⌝ }
 {
     (v.channel as u64 + v.width as u64 + v.current as u64) % 32
 }

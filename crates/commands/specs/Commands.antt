@@ -15,18 +15,18 @@ pub data Command : Type 0 where
   stop : Command
   single : Single → Command
 
-abbrev pub ident : Command → ℕ
-ident (init v) = 0
-ident (update count entries) = 1
-ident stop = 2
-ident (single v) = 3
+abbrev pub identOf : Command → ℕ
+identOf (init v) = 0
+identOf (update count entries) = 1
+identOf stop = 2
+identOf (single v) = 3
 
 -- how many channels it lists
-abbrev pub listed : Command → ℕ
-listed (init v) = 0
-listed (update count entries) = count
-listed stop = 0
-listed (single v) = 0
+abbrev pub countOf : Command → ℕ
+countOf (init v) = 0
+countOf (update count entries) = count
+countOf stop = 0
+countOf (single v) = 0
 
 abbrev pub noSetting : Setting
 noSetting = record { mode = 0; width = 0; current = 0 }
@@ -41,11 +41,11 @@ unfoldable pub sumAll : List Setting → ℕ
 sumAll [] = 0
 sumAll (v ∷ entries) = settingSum v + sumAll entries
 
-abbrev pub check : Command → ℕ
-check (init v) = (v .factor + v .stim + v .lf + v .group + v .main) % 8
-check (update count entries) = sumAll entries % 32
-check stop = 0
-check (single v) = (v .channel + v .width + v .current) % 32
+abbrev pub checkOf : Command → ℕ
+checkOf (init v) = (v .factor + v .stim + v .lf + v .group + v .main) % 8
+checkOf (update count entries) = sumAll entries % 32
+checkOf stop = 0
+checkOf (single v) = (v .channel + v .width + v .current) % 32
 
 -- ---- good values
 

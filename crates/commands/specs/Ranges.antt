@@ -4,7 +4,7 @@ use mathlib.Core.Bool.{Bool, _&&_, _||_}
 use lib.Dec.{leb, eqb}
 
 abbrev pub within : ℕ → ℕ → ℕ → Bool
-within low x high = leb low x && leb x high
+within least x most = leb least x && leb x most
 
 -- Width 0 or 10 to 500 µs; Current 0 to 127 mA
 abbrev pub goodPulse : ℕ → ℕ → Bool

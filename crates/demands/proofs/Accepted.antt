@@ -11,7 +11,7 @@ use borrow.Author.Tests.{le-ltb, le-leb, lt-leb, eq-eqb, ltb-false, leb-false, e
 use Rattle.bits.specs.Fields.{field}
 use Rattle.bits.specs.High.{high, firstHigh}
 use Rattle.commands.specs.Ranges.{goodCount}
-use Rattle.commands.specs.Commands.{Command, check, good}
+use Rattle.commands.specs.Commands.{Command, checkOf, good}
 use Rattle.commands.proofs.Tests.{passed, first-none}
 use Rattle.frames.specs.Layout.{sizeFor, commandIn, checkIn}
 use Rattle.frames.specs.Reader.{later, hasHigh, shapeTests, valueTests, found, answered, readFrame}
@@ -52,7 +52,7 @@ none-lows s e = low-all s (ltb-false _ _ e)
 -- a slice that reads as a good command
 pub record Accepted (s : List ℕ) (count : ℕ) : Type 0 where
   pub shaped : Shaped s count
-  pub right-check : checkIn s ≡ check (commandIn s count)
+  pub right-check : checkIn s ≡ checkOf (commandIn s count)
   pub good-values : good (commandIn s count) ≡ true
 
 -- the answer is that of the tests
@@ -65,7 +65,7 @@ unfolding readFrame
 accepted s count e =
     let c = commandIn s count in
     let none = first-none (shapeTests s count) (valueTests (checkIn s) c) (shape-refuses s count) (sym (answer-is _ c) ∙ e) in
-    let t6 = passed (not (eqb (checkIn s) (check c))) 3 _ (omega arith) (none .1) in
+    let t6 = passed (not (eqb (checkIn s) (checkOf c))) 3 _ (omega arith) (none .1) in
     let t7 = passed (not (good c)) 4 0 (omega arith) (t6 .1) in
     record {
       shaped = shaped s count (none .0);

@@ -22,15 +22,14 @@ use Rattle.record.specs.Box.{stateOf, boxOf, goodBox}
 use Rattle.outcome.specs.Claims.{pulsesIn}
 use Rattle.calls.specs.Making.{makeOf}
 use Rattle.calls.specs.Filed.{filed}
-use Rattle.calls.specs.Calls.{callOf}
-use Rattle.calls.specs.Calls as calls
+use Rattle.calls.specs.Calls.{stepFiled, callOf}
 use Rattle.calls.specs.Readout.{readoutOf, readoutBytes}
 use Rattle.trace.specs.Records.{sizeOf}
 use Rattle.trace.specs.Rows.{joined, splitsAfter, recordsAfter}
 use Rattle.trace.specs.Tail.{tailWithin, kept}
 use Rattle.trace.specs.Round.{around, fromStart, content, storedRound}
 use Rattle.trace.specs.Ring.{goodRing, goodPart, withPart, placeAnswer, readyAnswer, readoutAnswer, roomFor, pushedRing, pushedPart, pushed, pushedBuf, readOut, readBytes}
-use Rattle.demands.specs.OneBuffer.{onward, given}
+use Rattle.demands.specs.OneBuffer.{onward, benchAfter}
 use Rattle.demands.specs.FreshBox.{loosest}
 use Rattle.demands.specs.Cases.{upToClock, cases, Claim}
 use Rattle.demands.specs.Rejoining.{strict, Rejoins}
@@ -46,7 +45,7 @@ _then_ : {A B : Type 0} → A → B → A × B
 a then b = (a, b)
 
 pub computed : Computed
-unfolding cases firstHigh sumAll goodEntries initWord entryIn settingsIn entriesIn commandIn checkIn settingsBytes readFrame wrote written inSet many placed t1 t2 keepsModules keepsMain largestMode slot inTurn felt hits due overAt overLimits asked breaksTiming inHold overLimit refusals judge accept carry lengthened opened followed arrive decided judged taken byteStep moved releases watched timed tickStep step run after pulsesIn goodProfile allGood runInRange inRange onlyListed unlistedZero keepsTiming keepsProfile zeroRun goodSize goodPartial stateOf frameOf boxOf zeros unusedZero goodBox makeOf filed callOf calls.given readoutOf readoutBytes sizeOf joined splitsAfter recordsAfter tailWithin kept around fromStart content storedRound goodRing goodPart withPart placeAnswer readyAnswer readoutAnswer roomFor pushedRing pushedPart pushed pushedBuf readOut readBytes onward given
+unfolding cases firstHigh sumAll goodEntries initWord entryIn settingsIn entriesIn commandIn checkIn settingsBytes readFrame wrote written inSet many placed t1 t2 keepsModules keepsMain largestMode slot inTurn felt hits due overAt overLimits asked breaksTiming inHold overLimit refusals judge accept carry lengthened opened followed arrive decided judged taken byteStep moved releases watched timed tickStep step run after pulsesIn goodProfile allGood runInRange inRange onlyListed unlistedZero keepsTiming keepsProfile zeroRun goodSize goodPartial stateOf frameOf boxOf zeros unusedZero goodBox makeOf filed callOf stepFiled readoutOf readoutBytes sizeOf joined splitsAfter recordsAfter tailWithin kept around fromStart content storedRound goodRing goodPart withPart placeAnswer readyAnswer readoutAnswer roomFor pushedRing pushedPart pushed pushedBuf readOut readBytes onward benchAfter
 computed =
     record {
       claimed =

@@ -12,7 +12,7 @@ use Rattle.commands.specs.Answers.{_when_, firstOf}
 use Rattle.commands.specs.Commands.{Command, Command.init, Command.update, Command.stop, Command.single, good}
 use Rattle.commands.proofs.Tests.{passed}
 use Rattle.commands.proofs.Fits.{update-count}
-use Rattle.frames.specs.Bytes.{size, frame}
+use Rattle.frames.specs.Bytes.{frameSize, frame}
 use Rattle.writers.specs.Writer.{writeAnswer, wrote, written}
 use Rattle.writers.proofs.Rows.{length-update}
 use Rattle.trace.specs.declared.Part.{Part}
@@ -29,7 +29,7 @@ use Rattle.said.specs.Said.{saidOf}
 use Rattle.outcome.proofs.Calls.{good-taken}
 use Rattle.calls.specs.Making.{makeAnswer, makeOf}
 use Rattle.calls.specs.Filed.{filed}
-use Rattle.calls.specs.Calls.{refusalOf, given, callOf}
+use Rattle.calls.specs.Calls.{refusalOf, stepFiled, callOf}
 use Rattle.calls.proofs.Zero.{zero-not-good}
 use Rattle.calls.specs.Readout.{readoutOf, readoutBytes}
 use Rattle.demands.specs.RoundTrips.{Held}
@@ -45,12 +45,12 @@ module _ (b : Box) (buf : List ℕ) (at : Part) (c : Call) (bytes : length (b .p
 
   -- a step that leaves all
   nothing-done : goodBox b ≡ true → x ≡ record { state = stateOf b; answer = 15; reply = 0; records = [] }
-      → (given b buf at x .buf ≡ buf) × (given b buf at x .called .next ≡ b)
-  unfolding given filed
+      → (stepFiled b buf at x .buf ≡ buf) × (stepFiled b buf at x .called .next ≡ b)
+  unfolding stepFiled filed
   nothing-done g e = rw e (refl, back b bytes g)
 
   call-keeps : CallKeeps b buf at c
-  unfolding callOf given saidOf
+  unfolding callOf stepFiled saidOf
   call-keeps =
       either-way (eqb (refusalOf b buf at) 0)
       (λ e.
@@ -75,7 +75,7 @@ readout-keeps b buf at out =
 -- ---- a writer
 
 -- a good command has as many bytes as its size says
-frame-size : (c : Command) → Held c → good c ≡ true → length (frame c) ≡ size c
+frame-size : (c : Command) → Held c → good c ≡ true → length (frame c) ≡ frameSize c
 frame-size (init v) h g = refl
 frame-size (update count entries) h g = length-update count entries (omega (arith, update-count count entries g))
 frame-size stop h g = refl
@@ -87,12 +87,12 @@ writer-keeps c out h =
     either-way (eqb (writeAnswer c out) 0)
     (λ e.
     let z : writeAnswer c out ≡ 0 = eqb-true (writeAnswer c out) 0 e in
-    let t = passed (not (good c)) 4 (firstOf (16 when ltb (length out) (size c) ∷ [])) (omega arith) z in
+    let t = passed (not (good c)) 4 (firstOf (16 when ltb (length out) (frameSize c) ∷ [])) (omega arith) z in
     let n = frame-size c h (not-false (good c) (t .0)) in
-    let fits : size c ≤ length out = ltb-false (length out) (size c) (passed (ltb (length out) (size c)) 16 0 (omega arith) (t .1) .0) in
+    let fits : frameSize c ≤ length out = ltb-false (length out) (frameSize c) (passed (ltb (length out) (frameSize c)) 16 0 (omega arith) (t .1) .0) in
     record {
-      size = rw e (length-append (frame c) (drop (size c) out) ∙ omega (arith, n, fits, length-drop (size c) out));
-      past = rw e (drop-at (frame c) (drop (size c) out) (size c) n);
+      size = rw e (length-append (frame c) (drop (frameSize c) out) ∙ omega (arith, n, fits, length-drop (frameSize c) out));
+      past = rw e (drop-at (frame c) (drop (frameSize c) out) (frameSize c) n);
       refused = λ l. not-both l (rw z refl);
     })
     (λ e. record { size = rw e refl; past = rw e refl; refused = rw e (λ l. refl) })

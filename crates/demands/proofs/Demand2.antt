@@ -20,7 +20,7 @@ use Rattle.model.proofs.Theorems.{always-good}
 use Rattle.record.specs.Box.{stateOf, boxOf}
 use Rattle.record.proofs.Carries.{carries}
 use Rattle.calls.specs.Making.{emptyRing, freshBox, makeOf}
-use Rattle.demands.specs.History.{Kept, History, start, calls}
+use Rattle.demands.specs.History.{Kept, History, atFirst, calls}
 use Rattle.demands.specs.Demand2.{Demand2Holds}
 use Rattle.demands.proofs.Histories.{Grown, Holds, from, reads}
 
@@ -53,7 +53,7 @@ fresh-grown p capacity m bytes =
     }
 
 -- what holds over a whole history
-pub whole : (p : Profile) (h : History p) → Holds p (h .capacity) (start h) fresh [] (h .turns)
+pub whole : (p : Profile) (h : History p) → Holds p (h .capacity) (atFirst h) fresh [] (h .turns)
 whole p h =
     let m = was-made p (h .capacity) (h .taken) in
     rw (m .box) (from (fresh-grown p (h .capacity) m (h .bytes)) (h .turns) (rw (m .box) at (h .proper)))

@@ -34,7 +34,7 @@ use Rattle.record.proofs.Carries.{carries, carrier-good}
 use Rattle.said.specs.Said.{saidOf}
 use Rattle.outcome.proofs.Lost.{placed}
 use Rattle.calls.specs.Filed.{Filed, filed, Answered}
-use Rattle.calls.specs.Calls.{given, callOf}
+use Rattle.calls.specs.Calls.{stepFiled, callOf}
 use Rattle.calls.specs.Readout.{readoutOf, readoutBytes}
 use Rattle.demands.specs.FreshBox.{trace}
 use Rattle.demands.specs.History.{Turn, Turn.call, Turn.readout, Kept, next, last, Proper, calls, Spoken, spokenBy, spoken}
@@ -105,9 +105,9 @@ module _ {p : Profile} {capacity : ℕ} {g : Ring} {s : State} {bytes : List ℕ
     after-it = filed at g buf (x .records)
 
     -- a byte or a tick is taken
-    pub gives : callOf (boxOf p g s) buf at c ≡ given (boxOf p g s) buf at (step p s c)
+    pub gives : callOf (boxOf p g s) buf at c ≡ stepFiled (boxOf p g s) buf at (step p s c)
     unfolding callOf boxOf
-    gives = rw (good, ready) (ap (λ (y : State). given (boxOf p g s) buf at (step p y c)) (carries p g s))
+    gives = rw (good, ready) (ap (λ (y : State). stepFiled (boxOf p g s) buf at (step p y c)) (carries p g s))
 
     -- what it says, in its two places, is what the machine says
     pub says : spokenBy (saidOf (step p s c)) ≡ documented (outcome (step p s c))
@@ -130,7 +130,7 @@ module _ {p : Profile} {capacity : ℕ} {g : Ring} {s : State} {bytes : List ℕ
         }
 
     then : next (box p g s bytes) (call c buf at) ≡ box p (after-it .ring) (x .state) (part (after-it .buf) at)
-    unfolding next given boxOf
+    unfolding next stepFiled boxOf
     then = ap (λ (r : Answered). record { box = r .called .next; bytes = part (r .buf) at }) gives
 
 -- ---- turn after turn
@@ -146,7 +146,7 @@ pub record Holds (p : Profile) (capacity : ℕ) (h : Kept) (s : State) (xs : Lis
 
 pub from : {p : Profile} {capacity : ℕ} {g : Ring} {s : State} {bytes : List ℕ} {xs : List Record} → Grown p capacity g s bytes xs
     → (ts : List Turn) → Proper (box p g s bytes) ts → Holds p capacity (box p g s bytes) s xs ts
-unfolding spoken NoneRefused run after last next Proper boxOf given saidOf
+unfolding spoken NoneRefused run after last next Proper boxOf stepFiled saidOf
 from {g = g} {bytes = bytes} f [] w =
     record { said = refl; none = tt; ring = g; bytes = bytes; grown = rw append-nil f; left = refl }
 from f (readout out buf at ∷ ts) w =

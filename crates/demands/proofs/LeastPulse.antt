@@ -12,7 +12,7 @@ use borrow.Author.Tests.{le-ltb, le-leb, lt-leb, eq-eqb, eqb-true, eqb-false}
 use Rattle.bits.specs.Fields.{field}
 use Rattle.commands.specs.declared.Setting.{Setting}
 use Rattle.commands.specs.declared.Single.{Single}
-use Rattle.commands.specs.Commands.{Command.single, noSetting, check, goodSingle}
+use Rattle.commands.specs.Commands.{Command.single, noSetting, checkOf, goodSingle}
 use Rattle.frames.specs.Layout.{checkIn}
 use Rattle.frames.specs.Bytes.{head}
 use Rattle.trace.specs.declared.Record.the-variants.{Answer, Pulse}
@@ -103,18 +103,18 @@ module _ (p : Profile) (a : AllowsPulse p) where
   is-good : goodSingle least ≡ true
   is-good = rw (le-leb (a .channel) 7 (omega (arith, a .eight)))
 
-  pulsed : judged p 0 (fresh .core) (check (single least)) (single least) .records ≡ Answer 0 3 0 ∷ Pulse 0 (a .channel + 1) 10 1 ∷ []
+  pulsed : judged p 0 (fresh .core) (checkOf (single least)) (single least) .records ≡ Answer 0 3 0 ∷ Pulse 0 (a .channel + 1) 10 1 ∷ []
   unfolding judged judge refusals breaksTiming decided carry accept felt
-  pulsed = rw (eq-eqb (check (single least)) _ refl, is-good, no-hold least, all-under)
+  pulsed = rw (eq-eqb (checkOf (single least)) _ refl, is-good, no-hold least, all-under)
 
   -- its first three bytes; the fourth is its current
   abbrev pub opening : List Call
-  opening = byte (head 3 (check (single least))) ∷ byte (a .channel * 2 ^ 4 + field 10 7 2) ∷ byte (field 10 0 7) ∷ []
+  opening = byte (head 3 (checkOf (single least))) ∷ byte (a .channel * 2 ^ 4 + field 10 7 2) ∷ byte (field 10 0 7) ∷ []
 
   pub least-pulses : documented (outcome (step p (after p fresh opening) (byte 1))) .pulses ≡ Pulse 0 (a .channel + 1) 10 1 ∷ []
   unfolding pulsesIn
   least-pulses =
-      let k = check (single least) in
+      let k = checkOf (single least) in
       let hk = mod-lt (a .channel + 10 + 1) {m = 32} (omega arith) in
       ap (λ (r : Result). pulsesIn (r .records))
       (four p (head 3 k) (a .channel * 2 ^ 4 + field 10 7 2) (field 10 0 7) 1 (omega arith) (omega arith) (omega (arith, a .eight)) (omega arith) (omega arith)

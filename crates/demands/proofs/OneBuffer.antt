@@ -13,9 +13,9 @@ use Rattle.model.specs.State.{State}
 use Rattle.model.specs.Machine.{step}
 use Rattle.record.specs.Box.{boxOf}
 use Rattle.calls.specs.Filed.{Answered}
-use Rattle.calls.specs.Calls as guard
+use Rattle.calls.specs.Calls.{stepFiled}
 use Rattle.demands.specs.History.{Kept, next, last, LentTo, Proper, Request, Request.act, Request.show, requests, acts}
-use Rattle.demands.specs.OneBuffer.{Bench, onward, given, turnsOf, benchOf, AnyHistory}
+use Rattle.demands.specs.OneBuffer.{Bench, onward, benchAfter, turnsOf, benchOf, AnyHistory}
 use Rattle.demands.proofs.Filed.{filed-ready, ready-placed}
 use Rattle.demands.proofs.Histories.{Grown, ready, gives, grows}
 use Rattle.demands.proofs.Demand2.{was-made, fresh-grown}
@@ -24,12 +24,12 @@ use Rattle.demands.proofs.Demand2.{was-made, fresh-grown}
 abbrev StaysProper : Part → Bench → List Request → Type 0
 StaysProper at k rs =
     let h : Kept = record { box = k .box; bytes = part (k .buf) at } in
-    Proper h (turnsOf at k rs) × LentTo (last h (turnsOf at k rs)) (given at k (acts rs) .buf) at
+    Proper h (turnsOf at k rs) × LentTo (last h (turnsOf at k rs)) (benchAfter at k (acts rs) .buf) at
 
 stays-proper : {p : Profile} {capacity : ℕ} (at : Part) {g : Ring} {s : State} (buf : List ℕ) {xs : List Record} (rs : List Request)
     → Grown p capacity g s (part buf at) xs → Lent buf at (record { ring = g; bytes = part buf at })
     → StaysProper at (record { box = boxOf p g s; buf = buf }) rs
-unfolding Proper last turnsOf onward given next guard.given boxOf
+unfolding Proper last turnsOf onward benchAfter next stepFiled boxOf
 stays-proper at buf [] f l = (tt, l)
 stays-proper at buf (show out ∷ rs) f l = let w = stays-proper at buf rs f l in ((l, w .0), w .1)
 stays-proper {p} at {g} {s} buf (act c ∷ rs) f l =

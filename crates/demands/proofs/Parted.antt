@@ -7,7 +7,7 @@ use native.Mathlib.Omega.{arith}
 use lib.Dec.{eqb}
 use borrow.Author.Tests.{leb-false, lt-leb}
 use Rattle.bits.specs.High.{high}
-use Rattle.commands.specs.Commands.{Command, Command.init, Command.update, Command.stop, Command.single, ident}
+use Rattle.commands.specs.Commands.{Command, Command.init, Command.update, Command.stop, Command.single, identOf}
 use Rattle.frames.specs.Layout.{identIn, sizeFor, checkIn}
 use Rattle.model.specs.declared.Profile.{Profile}
 use Rattle.model.specs.declared.Run.{Run}
@@ -115,7 +115,7 @@ module _ (p q : Profile) (l : NowhereLooser q p) where
     unfolding judged decided carry pulsesIn
     judged-apart k c =
         let n = judge q (down a b r) k c in
-        carry-cases (λ d. Met (judged p clock m k c) (decided clock (ident c) n d)) clock (down a b r) c n
+        carry-cases (λ d. Met (judged p clock m k c) (decided clock (identOf c) n d)) clock (down a b r) c n
         (λ z. let (y, e) = carried-out k c z in rw (z, y, e) same)
         (fell (apart even) refl) (fell (apart even) refl) (fell (apart even) refl)
 

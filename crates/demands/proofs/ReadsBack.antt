@@ -12,12 +12,12 @@ use Rattle.commands.specs.declared.Init.{Init}
 use Rattle.commands.specs.declared.Setting.{Setting}
 use Rattle.commands.specs.declared.Single.{Single}
 use Rattle.commands.specs.Ranges.{goodCount}
-use Rattle.commands.specs.Commands.{Command, Command.init, Command.update, Command.stop, Command.single, noSetting, sumAll, check}
+use Rattle.commands.specs.Commands.{Command, Command.init, Command.update, Command.stop, Command.single, noSetting, sumAll, checkOf}
 use Rattle.commands.specs.Commands.{goodInit, goodEntries, goodSingle, good}
 use Rattle.commands.proofs.Tests.{both}
 use Rattle.frames.specs.declared.Entry.{Entry}
 use Rattle.frames.specs.Layout.{identIn, initOf, settingsIn, entriesIn, commandIn, checkIn}
-use Rattle.frames.specs.Bytes.{size, frame, head, initNumber, initBytes, entryBytes, settingsBytes}
+use Rattle.frames.specs.Bytes.{frameSize, frame, head, initNumber, initBytes, entryBytes, settingsBytes}
 use Rattle.frames.specs.Reader.{readFrame, found}
 use Rattle.demands.specs.RoundTrips.{Held, Told, ReadsBack}
 use Rattle.commands.proofs.Fits.{count-fits, init-fits, single-fits, listed-fit, then-zeros}
@@ -31,10 +31,10 @@ use Rattle.writers.proofs.Outcomes.{written-frame}
 use Rattle.demands.proofs.Rows.{settings-lows, settings-there}
 
 -- a slice of the right shape, Check and good values reads as its command
-reads-as : (s : List ℕ) (count : ℕ) (c : Command) → Shaped s count → commandIn s count ≡ c → checkIn s ≡ check c → good c ≡ true
+reads-as : (s : List ℕ) (count : ℕ) (c : Command) → Shaped s count → commandIn s count ≡ c → checkIn s ≡ checkOf c → good c ≡ true
     → readFrame s count ≡ found c
 reads-as s count c h e k g =
-    reads-found s count (record { shaped = h; right-check = k ∙ ap check (sym e); good-values = ap good e ∙ g }) ∙ ap found e
+    reads-found s count (record { shaped = h; right-check = k ∙ ap checkOf (sym e); good-values = ap good e ∙ g }) ∙ ap found e
 
 -- ---- Init
 
@@ -43,15 +43,15 @@ pub record InitThere (s : List ℕ) (v : Init) : Type 0 where
   pub first : 128 ≤ getD s 0 0
   pub ident-0 : identIn s ≡ 0
   pub command : (count : ℕ) → commandIn s count ≡ init v
-  pub checked : checkIn s ≡ check (init v)
+  pub checked : checkIn s ≡ checkOf (init v)
 
-pub init-number : (v : Init) → Held (init v) → good (init v) ≡ true → NumberOf (initNumber (check (init v)) v) (check (init v)) v
+pub init-number : (v : Init) → Held (init v) → good (init v) ≡ true → NumberOf (initNumber (checkOf (init v)) v) (checkOf (init v)) v
 init-number v held g =
-    let k = check (init v) in
+    let k = checkOf (init v) in
     let hk : k < 2 ^ 3 = mod-lt (v .factor + v .stim + v .lf + v .group + v .main) (omega arith) in
     number-of k v hk (init-fits v g) (held .0) (held .1)
 
-pub init-there : (w : ℕ) (v : Init) (rest : List ℕ) → NumberOf w (check (init v)) v → InitThere (initBytes w ++ rest) v
+pub init-there : (w : ℕ) (v : Init) (rest : List ℕ) → NumberOf w (checkOf (init v)) v → InitThere (initBytes w ++ rest) v
 init-there w v rest n =
     let s = initBytes w ++ rest in
     let least = n .high-bit in
@@ -66,7 +66,7 @@ init-there w v rest n =
     }
 
 init-back : (w : ℕ) (v : Init) (rest : List ℕ) (count : ℕ)
-    → NumberOf w (check (init v)) v → goodInit v ≡ true → goodCount count ≡ true
+    → NumberOf w (checkOf (init v)) v → goodInit v ≡ true → goodCount count ≡ true
     → readFrame (initBytes w ++ rest) count ≡ found (init v)
 init-back w v rest count n g t =
     let low = field w 28 7 ∷ field w 21 7 ∷ field w 14 7 ∷ field w 7 7 ∷ field w 0 7 ∷ [] in
@@ -92,7 +92,7 @@ module _ (v : Single) (k : ℕ) (rest : List ℕ) (hk : k < 32) (g : goodSingle 
       let kept : field (head 3 k) 0 5 ≡ k = omega arith in
       check-5 (singleBytes v k rest) (omega arith) ∙ kept
 
-  single-back : (count : ℕ) → k ≡ check (single v) → goodCount count ≡ true → readFrame (singleBytes v k rest) count ≡ found (single v)
+  single-back : (count : ℕ) → k ≡ checkOf (single v) → goodCount count ≡ true → readFrame (singleBytes v k rest) count ≡ found (single v)
   single-back count e t =
       let low = entryBytes 4 (v .channel) (v .width) (v .current) in
       let i : identIn (singleBytes v k rest) ≡ 3 = omega arith in
@@ -108,7 +108,7 @@ unfolding entriesIn
 entries-as s count vs e = rw e
 
 update-back : (count : ℕ) (entries : List Setting) (k : ℕ) (rest : List ℕ)
-    → length entries ≡ 8 → k < 32 → k ≡ check (update count entries) → good (update count entries) ≡ true
+    → length entries ≡ 8 → k < 32 → k ≡ checkOf (update count entries) → good (update count entries) ≡ true
     → readFrame (head 1 k ∷ settingsBytes (take count entries) ++ rest) count ≡ found (update count entries)
 update-back count entries k rest len hk e g =
     let p = both (goodCount count) (goodEntries entries count) g in
@@ -130,17 +130,17 @@ update-back count entries k rest len hk e g =
 -- ---- any command
 
 frame-back : (c : Command) → Held c → good c ≡ true → (count : ℕ) → Told count c → (rest : List ℕ) → readFrame (frame c ++ rest) count ≡ found c
-frame-back (init v) held g count told rest = init-back (initNumber (check (init v)) v) v rest count (init-number v held g) g told
+frame-back (init v) held g count told rest = init-back (initNumber (checkOf (init v)) v) v rest count (init-number v held g) g told
 frame-back (update own entries) held g count told rest =
-    rw told (update-back own entries (check (update own entries)) rest held (mod-lt (sumAll entries) (omega arith)) refl g)
+    rw told (update-back own entries (checkOf (update own entries)) rest held (mod-lt (sumAll entries) (omega arith)) refl g)
 frame-back stop held g count told rest =
     let s = head 2 0 ∷ rest in
     reads-as s count stop (framed (head 2 0) [] rest count told (omega arith) tt refl)
     (stop-here s count refl) (check-5 s (omega arith)) refl
 frame-back (single v) held g count told rest =
-    single-back v (check (single v)) rest (mod-lt (v .channel + v .width + v .current) (omega arith)) g count refl told
+    single-back v (checkOf (single v)) rest (mod-lt (v .channel + v .width + v .current) (omega arith)) g count refl told
 
 pub reads-back : ReadsBack
 reads-back c held g count told out rest room =
-    rw (written-frame c out g room, append-assoc (frame c) (drop (size c) out) rest)
-    (frame-back c held g count told (drop (size c) out ++ rest))
+    rw (written-frame c out g room, append-assoc (frame c) (drop (frameSize c) out) rest)
+    (frame-back c held g count told (drop (frameSize c) out ++ rest))

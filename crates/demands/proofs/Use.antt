@@ -16,12 +16,11 @@ use Rattle.model.proofs.Tests.{_and_, either-way}
 use Rattle.record.specs.Box.{boxOf}
 use Rattle.calls.specs.Making.{zeroBox, makeAnswer, makeOf}
 use Rattle.calls.specs.Filed.{Answered}
-use Rattle.calls.specs.Calls.{turnedAway, given, callOf}
+use Rattle.calls.specs.Calls.{turnedAway, stepFiled, callOf}
 use Rattle.calls.specs.Readout.{readoutOf, readoutBytes}
 use Rattle.calls.proofs.Zero.{zero-not-good}
 use Rattle.demands.specs.History.{Turn, Turn.call, Turn.readout, Kept, next, last, LentTo, History, Request, acts, spokenBy}
-use Rattle.demands.specs.OneBuffer.{Bench, turnsOf, benchOf}
-use Rattle.demands.specs.OneBuffer as buffer
+use Rattle.demands.specs.OneBuffer.{Bench, benchAfter, turnsOf, benchOf}
 use Rattle.demands.specs.Demand2.{documented, tailOf, copied}
 use Rattle.demands.specs.Use.{Used, reached, Use, saidNext, readNext, programOf, LibraryMeets}
 use Rattle.demands.proofs.Histories.{gives, says}
@@ -36,7 +35,7 @@ module _ {p : Profile} {capacity : ℕ} {rs : List Request} (v : Used p capacity
   as-history = record { capacity = capacity; bytes = v .bytes; turns = v .turns; taken = e; proper = v .proper e .0 }
 
   made-says : (c : Call) → saidNext v c ≡ documented (outcome (step p (after p fresh (acts rs)) c))
-  unfolding as-history boxOf given
+  unfolding as-history boxOf stepFiled
   made-says c =
       let w = whole p as-history in
       let l = subst (λ (k : Kept). LentTo k (v .buf) (v .at)) (w .left) (v .proper e .1) in
@@ -106,7 +105,7 @@ used p capacity rs =
       bytes = part buf at;
       turns = turnsOf at k rs;
       same = same-requests at k rs;
-      buf = buffer.given at k (acts rs) .buf;
+      buf = benchAfter at k (acts rs) .buf;
       at = at;
       proper = λ e.
           let room = le-leb (0 + capacity) (length buf) (omega (arith, length-replicate {A = ℕ} capacity 0)) in

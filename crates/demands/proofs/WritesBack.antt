@@ -8,9 +8,9 @@ use lib.ListN.{length, getD, take, drop}
 use lib.Seq.{slice, slice-cons, slice-empty}
 use borrow.Author.Tests.{eq-eqb, ne-eqb}
 use Rattle.bits.specs.Fields.{field}
-use Rattle.commands.specs.Commands.{Command, Command.init, check}
+use Rattle.commands.specs.Commands.{Command, Command.init, checkOf}
 use Rattle.frames.specs.Layout.{identIn, sizeFor, initWord, initOf, entryIn, settingsIn, commandIn}
-use Rattle.frames.specs.Bytes.{size, head, initNumber, initBytes, settingsBytes, frame}
+use Rattle.frames.specs.Bytes.{frameSize, head, initNumber, initBytes, settingsBytes, frame}
 use Rattle.demands.specs.DontCare.{clear, cleared}
 use Rattle.demands.specs.RoundTrips.{AreBytes, EachWritesBack}
 use Rattle.writers.proofs.Outcomes.{written-frame}
@@ -93,17 +93,17 @@ settings-again s at (suc count) end m e h low =
 
 module _ (s : List ℕ) (count : ℕ) (bytes : AreBytes s) (a : Accepted s count) where
   abbrev Again : Type 0
-  Again = frame (commandIn s count) ≡ cleared (identIn s) 0 (take (size (commandIn s count)) s)
+  Again = frame (commandIn s count) ≡ cleared (identIn s) 0 (take (frameSize (commandIn s count)) s)
 
   -- the bytes of a frame are there, and the later ones are low
   bytes-of : (n : ℕ) → sizeFor (identIn s) count ≡ n → (n ≤ length s) × Lows (slice 1 n s)
   bytes-of n e = (rw e at (a .shaped .whole), none-lows (slice 1 n s) (rw e at (a .shaped .rest-low)))
 
   -- the first byte of all but Init
-  first-of : (k : ℕ) (c : Command) → identIn s ≡ suc k → commandIn s count ≡ c → head (suc k) (check c) ≡ getD s 0 0
+  first-of : (k : ℕ) (c : Command) → identIn s ≡ suc k → commandIn s count ≡ c → head (suc k) (checkOf c) ≡ getD s 0 0
   first-of k c i e =
-      head-again (getD s 0 0) (suc k) (check c) (a .shaped .first-high) (bytes 0) i
-      (ap check (sym e) ∙ sym (a .right-check) ∙ check-5 s (omega arith))
+      head-again (getD s 0 0) (suc k) (checkOf c) (a .shaped .first-high) (bytes 0) i
+      (ap checkOf (sym e) ∙ sym (a .right-check) ∙ check-5 s (omega arith))
 
   init-written : identIn s ≡ 0 → Again
   unfolding initWord cleared
@@ -113,7 +113,7 @@ module _ (s : List ℕ) (count : ℕ) (bytes : AreBytes s) (a : Accepted s count
       let l = rw six at (there .1) in
       let c = init-here s count i in
       let v = initOf (initWord s) in
-      let k : check (init v) ≡ field (initWord s) 37 3 = ap check (sym c) ∙ sym (a .right-check) ∙ check-3 s i in
+      let k : checkOf (init v) ≡ field (initWord s) 37 3 = ap checkOf (sym c) ∙ sym (a .right-check) ∙ check-3 s i in
       let again = init-again s (a .shaped .first-high) (bytes 0) i l in
       rw (c, i, six, clear-32 (getD s 3 0)) (ap (λ (x : ℕ). initBytes (initNumber x v)) k ∙ again)
 
@@ -155,5 +155,5 @@ each-writes-back s count bytes e =
     record {
       same = same;
       accepted = a .good-values;
-      bytes = λ out. rw same λ room. written-frame c out (a .good-values) room ∙ ap (λ (l : List ℕ). l ++ drop (size c) out) (written-again s count bytes a);
+      bytes = λ out. rw same λ room. written-frame c out (a .good-values) room ∙ ap (λ (l : List ℕ). l ++ drop (frameSize c) out) (written-again s count bytes a);
     }

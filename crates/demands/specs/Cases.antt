@@ -4,9 +4,9 @@ use mathlib.Core.Path.{_≡_}
 use mathlib.Core.List.{List, [], _∷_, _++_}
 use lib.ListN.{length, drop, replicate}
 use Rattle.commands.specs.declared.Setting.{Setting}
-use Rattle.commands.specs.Commands.{Command, Command.init, Command.update, Command.stop, Command.single, noSetting, check}
+use Rattle.commands.specs.Commands.{Command, Command.init, Command.update, Command.stop, Command.single, noSetting, checkOf}
 use Rattle.frames.specs.Bytes.{frame}
-use Rattle.frames.specs.Reader.{found, refused, readFrame}
+use Rattle.frames.specs.Reader.{found, refusedRead, readFrame}
 use Rattle.writers.specs.Writer.{wrote, written}
 use Rattle.trace.specs.declared.Record.the-variants.{Answer, Pulse, Trip}
 use Rattle.trace.specs.Case13.{wanted}
@@ -74,7 +74,7 @@ abbrev pub IsGood : Command → Type 0
 IsGood c = BothWays c (frame c)
 
 abbrev pub NotGood : Command → Type 0
-NotGood c = (readFrame (frame c) 2 ≡ refused 4) × (wrote c blank ≡ record { answer = 4; used = 0 }) × (written c blank ≡ blank)
+NotGood c = (readFrame (frame c) 2 ≡ refusedRead 4) × (wrote c blank ≡ record { answer = 4; used = 0 }) × (written c blank ≡ blank)
 
 -- ---- the list
 
@@ -86,12 +86,12 @@ cases =
     × (outcomes (sent (0xE2 ∷ 0x21 ∷ 0x48 ∷ 0x78 ∷ []))
     ≡ replicate 3 (only 1) ++ record { answer = 0; reply = 0xC1; records = Answer 0 3 0 ∷ Pulse 0 3 200 120 ∷ [] } ∷ []))
     -- Single, channel 6, 221, 55: F9 51 5D 37. The check is 25
-    ∷ case 2 (BothWays (singleOf 6 221 55) (0xF9 ∷ 0x51 ∷ 0x5D ∷ 0x37 ∷ []) × (check (singleOf 6 221 55) ≡ 25))
+    ∷ case 2 (BothWays (singleOf 6 221 55) (0xF9 ∷ 0x51 ∷ 0x5D ∷ 0x37 ∷ []) × (checkOf (singleOf 6 221 55) ≡ 25))
     -- E2 2D 48 78 reads as case 1
     ∷ case 3 (readFrame (0xE2 ∷ 0x2D ∷ 0x48 ∷ 0x78 ∷ []) 2 ≡ found (singleOf 3 200 120))
     -- E3 21 48 78: 3, reply C0
     ∷ case 4
-    ((readFrame (0xE3 ∷ 0x21 ∷ 0x48 ∷ 0x78 ∷ []) 2 ≡ refused 3)
+    ((readFrame (0xE3 ∷ 0x21 ∷ 0x48 ∷ 0x78 ∷ []) 2 ≡ refusedRead 3)
     × (outcomes (sent (0xE3 ∷ 0x21 ∷ 0x48 ∷ 0x78 ∷ []))
     ≡ replicate 3 (only 1) ++ record { answer = 3; reply = 0xC0; records = Answer 0 3 3 ∷ [] } ∷ []))
     -- Init, N 0, channels 1 and 3, Lf 0, Group 3, Main 18: 88 01 20 00 30 12

@@ -20,7 +20,7 @@ use Rattle.outcome.specs.Claims.{pulsesIn}
 use Rattle.calls.specs.Calls.{callOf}
 use Rattle.calls.specs.Readout.{readoutOf, readoutBytes}
 use Rattle.demands.specs.FreshBox.{trace}
-use Rattle.demands.specs.History.{Turn, Turn.call, Turn.readout, Kept, next, last, LentTo, History, start, calls, Spoken, spoken}
+use Rattle.demands.specs.History.{Turn, Turn.call, Turn.readout, Kept, next, last, LentTo, History, atFirst, calls, Spoken, spoken}
 
 -- as document 01's machine says it
 abbrev pub documented : Outcome → Spoken
@@ -57,14 +57,14 @@ readTo b buf at out = record { report = readoutOf b buf at (length out); output 
 
 pub record Demand2 {p : Profile} (h : History p) : Type 0 where
   -- every answer, reply and pulse is the document machine's for the calls so far
-  pub said : spoken (start h) (h .turns) ≡ map documented (run p fresh (calls (h .turns)))
-  pub none : NoneRefused (start h) (h .turns)
+  pub said : spoken (atFirst h) (h .turns) ≡ map documented (run p fresh (calls (h .turns)))
+  pub none : NoneRefused (atFirst h) (h .turns)
   -- the box carries the machine's state
-  pub state : stateOf (last (start h) (h .turns) .box) ≡ after p fresh (calls (h .turns))
+  pub state : stateOf (last (atFirst h) (h .turns) .box) ≡ after p fresh (calls (h .turns))
   -- the ring holds the longest fitting tail of all records so far, and wherever it is lent a readout copies its bytes
-  pub ring : heldIn (last (start h) (h .turns) .bytes) (last (start h) (h .turns) .box .ring) ≡ tailOf p (h .capacity) (calls (h .turns))
-  pub reads : (buf : List ℕ) (at : Part) (out : List ℕ) → LentTo (last (start h) (h .turns)) buf at
-      → readTo (last (start h) (h .turns) .box) buf at out ≡ copied (tailOf p (h .capacity) (calls (h .turns))) out
+  pub ring : heldIn (last (atFirst h) (h .turns) .bytes) (last (atFirst h) (h .turns) .box .ring) ≡ tailOf p (h .capacity) (calls (h .turns))
+  pub reads : (buf : List ℕ) (at : Part) (out : List ℕ) → LentTo (last (atFirst h) (h .turns)) buf at
+      → readTo (last (atFirst h) (h .turns) .box) buf at out ≡ copied (tailOf p (h .capacity) (calls (h .turns))) out
 
 abbrev pub Demand2Holds : Type 0
 Demand2Holds = (p : Profile) (h : History p) → Demand2 h

@@ -10,7 +10,7 @@ use Rattle.model.specs.Profiles.{NowhereLooser}
 use Rattle.model.specs.State.{fresh}
 use Rattle.model.specs.Machine.{Call}
 use Rattle.calls.specs.Making.{makeAnswer}
-use Rattle.demands.specs.History.{History, start, Request, acts, calls, Spoken, spoken}
+use Rattle.demands.specs.History.{History, atFirst, Request, acts, calls, Spoken, spoken}
 use Rattle.demands.specs.Program.{Program, Meets}
 use Rattle.demands.specs.Stretch.{inStretch}
 
@@ -39,4 +39,4 @@ pub data Along (q : Profile) : List Call → List Call → List Spoken → List 
 abbrev pub HistoriesBeside : Type 0
 HistoriesBeside =
     (p q : Profile) → NowhereLooser q p → (first : History p) (second : History q) → calls (first .turns) ≡ calls (second .turns)
-    → Along q [] (calls (second .turns)) (spoken (start first) (first .turns)) (spoken (start second) (second .turns))
+    → Along q [] (calls (second .turns)) (spoken (atFirst first) (first .turns)) (spoken (atFirst second) (second .turns))

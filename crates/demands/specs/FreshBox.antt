@@ -13,7 +13,7 @@ use Rattle.model.specs.State.{fresh}
 use Rattle.model.specs.Machine.{Call, Call.byte, Call.tick, Outcome, run}
 use Rattle.calls.specs.Making.{makeOf}
 use Rattle.calls.specs.Readout.{readoutOf, readoutBytes}
-use Rattle.demands.specs.OneBuffer.{Bench, given}
+use Rattle.demands.specs.OneBuffer.{Bench, benchAfter}
 
 -- ---- calls: bytes, the frames of commands, and ticks
 
@@ -63,5 +63,5 @@ pub record CopiedOut : Type 0 where
 abbrev pub copiedOut : ℕ → List Call → CopiedOut
 copiedOut capacity cs =
     let at : Part = record { offset = 5; size = capacity } in
-    let k : Bench = given at (record { box = makeOf loosest capacity .made; buf = replicate 41 0xAA }) cs in
+    let k : Bench = benchAfter at (record { box = makeOf loosest capacity .made; buf = replicate 41 0xAA }) cs in
     record { report = readoutOf (k .box) (k .buf) at 30; output = readoutBytes (k .box) (k .buf) at (replicate 30 0xBB) }

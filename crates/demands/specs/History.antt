@@ -59,8 +59,8 @@ pub record History (p : Profile) : Type 0 where
   pub taken : makeOf p capacity .answer ≡ 0
   pub proper : Proper (justMade p capacity bytes) turns
 
-abbrev pub start : {p : Profile} → History p → Kept
-start {p} h = justMade p (h .capacity) (h .bytes)
+abbrev pub atFirst : {p : Profile} → History p → Kept
+atFirst {p} h = justMade p (h .capacity) (h .bytes)
 
 -- what a turn asks of the box, wherever its ring lies: to act on a byte or a tick, or to show the ring to an output
 pub data Request : Type 0 where

@@ -23,9 +23,9 @@ unfoldable pub onward : Part → Bench → Call → Bench
 onward at k c = let r : Answered = callOf (k .box) (k .buf) at c in record { box = r .called .next; buf = r .buf }
 
 -- as calls leave them
-unfoldable pub given : Part → Bench → List Call → Bench
-given at k [] = k
-given at k (c ∷ cs) = given at (onward at k c) cs
+unfoldable pub benchAfter : Part → Bench → List Call → Bench
+benchAfter at k [] = k
+benchAfter at k (c ∷ cs) = benchAfter at (onward at k c) cs
 
 -- requests as turns
 unfoldable pub turnsOf : Part → Bench → List Request → List Turn
@@ -42,7 +42,7 @@ pub record HasHistory (p : Profile) (capacity : ℕ) (buf : List ℕ) (at : Part
   pub same : requests (turnsOf at (benchOf p capacity buf) rs) ≡ rs
   pub proper : Proper (justMade p capacity (part buf at)) (turnsOf at (benchOf p capacity buf) rs)
   pub lent : LentTo (last (justMade p capacity (part buf at)) (turnsOf at (benchOf p capacity buf) rs))
-      (given at (benchOf p capacity buf) (acts rs) .buf) at
+      (benchAfter at (benchOf p capacity buf) (acts rs) .buf) at
 
 abbrev pub AnyHistory : Type 0
 AnyHistory =

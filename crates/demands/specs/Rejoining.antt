@@ -23,12 +23,12 @@ abbrev pub allowed : List Call
 allowed = sent init5 ++ ticks 5 ++ sent (frame (updateOf (setTo 0 200 30) (setTo 1 300 30))) ++ ticks 110
 
 -- the Update of case 6 has 40 mA: the strict box trips, the lax one goes on
-abbrev pub over : List Call
-over = sent update6 ++ ticks 105
+abbrev pub tooStrong : List Call
+tooStrong = sent update6 ++ ticks 105
 
 -- then the first calls again: by the Init the strict box leaves the tripped state
-abbrev pub whole : List Call
-whole = allowed ++ over ++ allowed
+abbrev pub allThree : List Call
+allThree = allowed ++ tooStrong ++ allowed
 
 abbrev pub pulses : Profile → List Call → List ℕ
 pulses p cs = recordNumbers (pulsesIn (trace (run p fresh cs)))
@@ -38,11 +38,11 @@ isDown p cs = isTripped (after p fresh cs .core)
 
 pub record Rejoins : Type 0 where
   pub stricter : NowhereLooser strict loosest
-  pub trips : isDown strict (allowed ++ over) ≡ true
-  pub rejoins : isDown strict whole ≡ false
-  pub lax-runs : isDown loosest (allowed ++ over) ≡ false
-  pub strict-pulses : pulses strict whole ≡ recordNumbers (Pulse 100 1 200 30 ∷ Pulse 115 3 300 30 ∷ Pulse 320 1 200 30 ∷ Pulse 335 3 300 30 ∷ [])
-  pub lax-pulses : pulses loosest whole
+  pub trips : isDown strict (allowed ++ tooStrong) ≡ true
+  pub rejoins : isDown strict allThree ≡ false
+  pub lax-runs : isDown loosest (allowed ++ tooStrong) ≡ false
+  pub strict-pulses : pulses strict allThree ≡ recordNumbers (Pulse 100 1 200 30 ∷ Pulse 115 3 300 30 ∷ Pulse 320 1 200 30 ∷ Pulse 335 3 300 30 ∷ [])
+  pub lax-pulses : pulses loosest allThree
       ≡ recordNumbers
       (Pulse 100 1 200 30 ∷ Pulse 115 3 300 30
       ∷ Pulse 145 3 300 30 ∷ Pulse 200 1 200 40 ∷ Pulse 215 3 300 30

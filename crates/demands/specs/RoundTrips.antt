@@ -7,7 +7,7 @@ use lib.ListN.{length, getD, take, drop}
 use Rattle.commands.specs.Ranges.{goodCount}
 use Rattle.commands.specs.Commands.{Command, Command.init, Command.update, Command.stop, Command.single, good}
 use Rattle.frames.specs.Layout.{identIn, commandIn}
-use Rattle.frames.specs.Bytes.{size}
+use Rattle.frames.specs.Bytes.{frameSize}
 use Rattle.frames.specs.Reader.{readFrame, found}
 use Rattle.writers.specs.Writer.{written}
 use Rattle.demands.specs.DontCare.{cleared}
@@ -29,7 +29,7 @@ Told count (single v) = goodCount count ≡ true
 -- what a writer wrote for a good command, followed by any bytes, reads back as that command and that many bytes
 abbrev pub ReadsBack : Type 0
 ReadsBack =
-    (c : Command) → Held c → good c ≡ true → (count : ℕ) → Told count c → (out rest : List ℕ) → size c ≤ length out
+    (c : Command) → Held c → good c ≡ true → (count : ℕ) → Told count c → (out rest : List ℕ) → frameSize c ≤ length out
     → readFrame (written c out ++ rest) count ≡ found c
 
 abbrev pub AreBytes : List ℕ → Type 0

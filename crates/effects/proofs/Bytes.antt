@@ -9,7 +9,7 @@ use lib.ListN.{length, getD}
 use Rattle.commands.specs.Answers.{firstOf}
 use Rattle.commands.specs.Commands.{Command, Command.init, Command.update, Command.stop, Command.single}
 use Rattle.frames.specs.Layout.{identIn, initWord, initOf, entryIn, entriesIn, singleIn, commandIn, checkIn}
-use Rattle.frames.specs.Reader.{shapeTests, valueTests, found, refused, readFrame}
+use Rattle.frames.specs.Reader.{shapeTests, valueTests, found, refusedRead, readFrame}
 
 -- no bytes, no first byte
 pub empty-first : (s : List ℕ) → length s ≡ 0 → 0 ≡ getD s 0 0
@@ -27,7 +27,7 @@ channel-fits s count = of (eqb a 0) (eqb (identIn s) 0) (eqb (identIn s) 1) (eqb
   command : Bool → Bool → Bool → Command
   command i u p = cond i (init (initOf (initWord s))) (cond u (update count (entriesIn s count)) (cond p stop (single (singleIn s))))
 
-  of : (done i u p : Bool) → (cond done (found (command i u p)) (refused a)) .fields .single .channel < 8
+  of : (done i u p : Bool) → (cond done (found (command i u p)) (refusedRead a)) .fields .single .channel < 8
   of false i u p = omega arith
   of true true u p = omega arith
   of true false true p = omega arith

@@ -8,11 +8,11 @@ use lib.Dec.{ltb, eqb}
 use lib.ListN.{length}
 use borrow.Author.Tests.{ltb-false, le-ltb}
 use Rattle.commands.specs.Answers.{_when_, firstOf}
-use Rattle.commands.specs.Commands.{Command, Command.init, Command.update, Command.stop, Command.single, ident, check, good}
+use Rattle.commands.specs.Commands.{Command, Command.init, Command.update, Command.stop, Command.single, identOf, checkOf, good}
 use Rattle.frames.specs.declared.Read.{Read}
 use Rattle.frames.specs.Layout.{identIn, sizeFor, commandIn, checkIn}
 use Rattle.frames.specs.Reader.{fieldsOf, answered}
-use Rattle.frames.specs.Reader.{judge as judgeFrame}
+use Rattle.frames.specs.Reader.{testedValues}
 use Rattle.frames.proofs.Shaped.{shaped}
 use Rattle.frames.proofs.Idents.{init-here, update-here, stop-here, single-here, for-each-ident}
 use Rattle.frames.proofs.Judging.{read-judged}
@@ -23,11 +23,11 @@ use Rattle.model.specs.Judgement.{asked, isUpdate, isSingle, breaksTiming, inHo
 use Rattle.model.specs.Effects.{accept, carry}
 use Rattle.model.specs.Arrival.{decided, commandOf, judged}
 use Rattle.model.proofs.Tests.{either-way}
-use Rattle.decided.specs.Given.{dropFrame}
+use Rattle.decided.specs.ByValue.{dropFrame}
 use Rattle.effects.specs.Deciding.{lateTests, late, commandFrom, decideRead, toldCount, decideFrame, Whole}
 
 -- what an Update asks for does not depend on its count
-same-late : (p : Profile) (clock : ℕ) (m : Core) (c : Command) → late p clock m (commandFrom (ident c) (fieldsOf c)) ≡ late p clock m c
+same-late : (p : Profile) (clock : ℕ) (m : Core) (c : Command) → late p clock m (commandFrom (identOf c) (fieldsOf c)) ≡ late p clock m c
 unfolding late lateTests breaksTiming inHold overLimit asked carry accept
 same-late p clock m (init v) = refl
 same-late p clock m (update count entries) = refl
@@ -38,10 +38,10 @@ same-late p clock m (single v) = refl
 by-tests : (p : Profile) (clock : ℕ) (m : Core) (c : Command) (right shut fine : Bool)
     → let r : Read = answered (firstOf (3 when not right ∷ 4 when not fine ∷ [])) c in
     let a : ℕ = cond (not right) 3 (cond shut 10 (cond (not fine) 4 (firstOf (lateTests p m c)))) in
-    cond (eqb (r .answer) 3) (dropFrame clock m (ident c) 3)
-    (cond shut (dropFrame clock m (ident c) 10)
-    (cond (eqb (r .answer) 0) (late p clock m (commandFrom (ident c) (r .fields))) (dropFrame clock m (ident c) 4)))
-    ≡ decided clock (ident c) a (carry clock m c a)
+    cond (eqb (r .answer) 3) (dropFrame clock m (identOf c) 3)
+    (cond shut (dropFrame clock m (identOf c) 10)
+    (cond (eqb (r .answer) 0) (late p clock m (commandFrom (identOf c) (r .fields))) (dropFrame clock m (identOf c) 4)))
+    ≡ decided clock (identOf c) a (carry clock m c a)
 unfolding carry late
 by-tests p clock m c false shut fine = refl
 by-tests p clock m c true true true = refl
@@ -51,13 +51,13 @@ by-tests p clock m c true false true = same-late p clock m c
 
 -- a command as the reader reports it
 decided-as : (p : Profile) (clock : ℕ) (m : Core) (k : ℕ) (c : Command)
-    → decideRead p clock m (ident c) (judgeFrame k c) ≡ judged p clock m k c
-unfolding decideRead judgeFrame judged judge refusals lateTests
-decided-as p clock m k c = by-tests p clock m c (eqb k (check c)) ((isUpdate c || isSingle c) && isTripped m) (good c)
+    → decideRead p clock m (identOf c) (testedValues k c) ≡ judged p clock m k c
+unfolding decideRead testedValues judged judge refusals lateTests
+decided-as p clock m k c = by-tests p clock m c (eqb k (checkOf c)) ((isUpdate c || isSingle c) && isTripped m) (good c)
 
 module _ (s : List ℕ) (count : ℕ) where
   -- the Ident of the command in a slice
-  ident-here : ident (commandIn s count) ≡ identIn s
+  ident-here : identOf (commandIn s count) ≡ identIn s
   ident-here =
       for-each-ident s
       (λ e. rw (init-here s count e, e))

@@ -10,7 +10,7 @@ use Rattle.commands.specs.declared.Init.{Init}
 use Rattle.commands.specs.declared.Setting.{Setting}
 use Rattle.commands.specs.declared.Single.{Single}
 use Rattle.commands.specs.Answers.{_when_, firstOf}
-use Rattle.commands.specs.Commands.{Command, Command.init, Command.update, Command.stop, Command.single, ident}
+use Rattle.commands.specs.Commands.{Command, Command.init, Command.update, Command.stop, Command.single, identOf}
 use Rattle.model.specs.declared.Profile.{Profile}
 use Rattle.model.specs.declared.Core.{Core}
 use Rattle.model.specs.Channels.{silence, placed}
@@ -21,7 +21,7 @@ use Rattle.model.specs.Judgement.{asked, breaksTiming, holdOf, inHold, overLimi
 use Rattle.model.specs.Effects.{Done, withRun, started, waited, accept, carry}
 use Rattle.model.specs.Arrival.{decided}
 use Rattle.decided.specs.declared.Decided.{Decided}
-use Rattle.decided.specs.Given.{dropFrame, given}
+use Rattle.decided.specs.ByValue.{dropFrame, byValue}
 use Rattle.effects.specs.Deciding.{lateTests, late}
 
 -- a core without a record beside it
@@ -32,11 +32,11 @@ module _ (p : Profile) (clock : ℕ) (m : Core) where
   -- ---- what is carried out, and what is not
 
   module _ (c : Command) {a : ℕ} {r : Decided} (first : a ≡ firstOf (lateTests p m c)) where
-    pub carried-out : a ≡ 0 → r ≡ given (decided clock (ident c) 0 (accept clock m c)) → r ≡ given (late p clock m c)
+    pub carried-out : a ≡ 0 → r ≡ byValue (decided clock (identOf c) 0 (accept clock m c)) → r ≡ byValue (late p clock m c)
     unfolding late carry
     carried-out z e = e ∙ rw (sym first ∙ z)
 
-    pub not-carried : (a ≡ 0 → ⊥) → r ≡ given (dropFrame clock m (ident c) a) → r ≡ given (late p clock m c)
+    pub not-carried : (a ≡ 0 → ⊥) → r ≡ byValue (dropFrame clock m (identOf c) a) → r ≡ byValue (late p clock m c)
     unfolding late carry
     not-carried n e = e ∙ rw (← first, ne-eqb a 0 n)
 
@@ -48,7 +48,7 @@ module _ (p : Profile) (clock : ℕ) (m : Core) where
     init-tests = judged
 
     pub init-done : {n : Core} {r : Decided} → a ≡ 0 → n ≡ record { holda = 15; holdb = 15; state = 1; run = started v }
-        → r ≡ given (decided clock 0 a (bare n)) → r ≡ given (late p clock m (init v))
+        → r ≡ byValue (decided clock 0 a (bare n)) → r ≡ byValue (late p clock m (init v))
     unfolding accept
     init-done z e t = carried-out (init v) init-tests z (t ∙ rw (z, e))
 
@@ -60,7 +60,7 @@ module _ (p : Profile) (clock : ℕ) (m : Core) where
       update-tests = rw asks at judged
 
       pub update-done : {n : Core} {r : Decided} → a ≡ 0 → n ≡ withRun m (waited (m .run) settings)
-          → r ≡ given (decided clock 1 a (bare n)) → r ≡ given (late p clock m (update 0 entries))
+          → r ≡ byValue (decided clock 1 a (bare n)) → r ≡ byValue (late p clock m (update 0 entries))
       unfolding accept asked
       update-done z e t = carried-out (update 0 entries) update-tests z (t ∙ rw (z, e, asks))
 
@@ -72,6 +72,6 @@ module _ (p : Profile) (clock : ℕ) (m : Core) where
 
   -- a Stop is accepted in any state
   pub stop-done : {n : Core} {r : Decided} → n ≡ record { holda = 15; holdb = 15; state = 0; run = still }
-      → r ≡ given (decided clock 2 0 (bare n)) → r ≡ given (late p clock m stop)
+      → r ≡ byValue (decided clock 2 0 (bare n)) → r ≡ byValue (late p clock m stop)
   unfolding lateTests breaksTiming inHold overLimit accept
   stop-done e t = carried-out stop refl refl (t ∙ rw e)

@@ -6,7 +6,7 @@ use mathlib.Core.Path.{_≡_}
 use lib.Dec.{leb, ltb, eqb}
 use lib.ListN.{length}
 use Rattle.commands.specs.Answers.{Test, _when_, firstOf}
-use Rattle.commands.specs.Commands.{Command, Command.init, Command.update, Command.stop, Command.single, ident}
+use Rattle.commands.specs.Commands.{Command, Command.init, Command.update, Command.stop, Command.single, identOf}
 use Rattle.frames.specs.declared.Fields.{Fields}
 use Rattle.frames.specs.declared.Read.{Read}
 use Rattle.frames.specs.Layout.{identIn, byIdent}
@@ -21,7 +21,7 @@ use Rattle.model.specs.Arrival.{Result, decided}
 use Rattle.said.specs.declared.Released.{Released}
 use Rattle.said.specs.declared.Said.{Said}
 use Rattle.said.specs.Said.{nothing}
-use Rattle.decided.specs.Given.{dropFrame}
+use Rattle.decided.specs.ByValue.{dropFrame}
 
 -- the tests behind 3, 10 and 4
 unfoldable pub lateTests : Profile → Core → Command → List Test
@@ -29,7 +29,7 @@ lateTests p m c = lateRefusals m c ++ 9 when overLimit p m c ∷ []
 
 unfoldable pub late : Profile → ℕ → Core → Command → Result
 late p clock m c =
-    let a : ℕ = firstOf (lateTests p m c) in decided clock (ident c) a (carry clock m c a)
+    let a : ℕ = firstOf (lateTests p m c) in decided clock (identOf c) a (carry clock m c a)
 
 -- the command that a reader reports; what an Update asks for does not depend on its count
 abbrev pub commandFrom : ℕ → Fields → Command

@@ -14,11 +14,11 @@ ghost use Prim.Native.Nat.{_<_};
 ghost use Rattle.commands.specs.Commands.{Command.init, Command.update, Command.single};
 ghost use Rattle.model.specs.Effects.{accept};
 ghost use Rattle.model.specs.Arrival.{decided};
-ghost use Rattle.decided.specs.Given.{given};
+ghost use Rattle.decided.specs.ByValue.{byValue};
 ghost use Rattle.effects.specs.Deciding.{late};
 
 pub fn on_init(p: Profile, clock: u32, m: Core, v: Init) -> Decided
-    ensures { λ r. ⌜ r ≡ given (late p clock m (init v)) ⌝ }
+    ensures { λ r. ⌜ r ≡ byValue (late p clock m (init v)) ⌝ }
 {
     let answer = judgement::judge_init(p, v);
     if answer == answers::DONE {
@@ -28,7 +28,7 @@ pub fn on_init(p: Profile, clock: u32, m: Core, v: Init) -> Decided
 }
 
 pub fn on_update(p: Profile, clock: u32, m: Core, entries: [Setting; 8]) -> Decided
-    ensures { λ r. ⌜ r ≡ given (late p clock m (update 0 entries)) ⌝ }
+    ensures { λ r. ⌜ r ≡ byValue (late p clock m (update 0 entries)) ⌝ }
 {
     let settings = judgement::place(m.run.list.stim, entries);
     let answer = judgement::judge_update(p, m, settings);
@@ -40,7 +40,7 @@ pub fn on_update(p: Profile, clock: u32, m: Core, entries: [Setting; 8]) -> Deci
 
 fn accept_single(clock: u32, m: Core, v: Single) -> Decided
     requires { ⌜ v .channel < 8 ⌝ }
-    ensures { λ r. ⌜ r ≡ given (decided clock 3 0 (accept clock m (single v))) ⌝ }
+    ensures { λ r. ⌜ r ≡ byValue (decided clock 3 0 (accept clock m (single v))) ⌝ }
 {
     let held = cores::hold(m, v.channel);
     if schedule::is_felt(v.width, v.current) {
@@ -51,7 +51,7 @@ fn accept_single(clock: u32, m: Core, v: Single) -> Decided
 
 pub fn on_single(p: Profile, clock: u32, m: Core, v: Single) -> Decided
     requires { ⌜ v .channel < 8 ⌝ }
-    ensures { λ r. ⌜ r ≡ given (late p clock m (single v)) ⌝ }
+    ensures { λ r. ⌜ r ≡ byValue (late p clock m (single v)) ⌝ }
 {
     let answer = judgement::judge_single(p, m, v);
     if answer == answers::DONE {

@@ -12,12 +12,12 @@ use borrow.Author.Tests.{eq-eqb, ne-eqb, lt-ltb, le-ltb}
 use Rattle.bits.specs.High.{high, firstHigh}
 use Rattle.commands.specs.Answers.{_when_, firstOf}
 use Rattle.commands.specs.Ranges.{goodCount}
-use Rattle.commands.specs.Commands.{Command, check, good}
+use Rattle.commands.specs.Commands.{Command, checkOf, good}
 use Rattle.commands.proofs.Tests.{first-append}
 use Rattle.frames.specs.declared.Fields.{Fields}
 use Rattle.frames.specs.Layout.{identIn, sizeFor, commandIn, checkIn}
-use Rattle.frames.specs.Bytes.{size}
-use Rattle.frames.specs.Reader.{later, hasHigh, shapeTests, valueTests, fieldsOf, found, refused, answered, judge, readFrame}
+use Rattle.frames.specs.Bytes.{frameSize}
+use Rattle.frames.specs.Reader.{later, hasHigh, shapeTests, valueTests, fieldsOf, found, refusedRead, answered, testedValues, readFrame}
 use Rattle.frames.proofs.Shaped.{shape-refuses}
 
 -- ---- the tests of shape
@@ -72,15 +72,15 @@ module _ (s : List ℕ) (count : ℕ) where
 
 -- 3; 4; else the command
 by-tests : (right fine : Bool) (c : Command)
-    → cond right (cond fine (found c) (refused 4)) (refused 3) ≡ answered (firstOf (3 when not right ∷ 4 when not fine ∷ [])) c
+    → cond right (cond fine (found c) (refusedRead 4)) (refusedRead 3) ≡ answered (firstOf (3 when not right ∷ 4 when not fine ∷ [])) c
 by-tests true true c = refl
 by-tests true false c = refl
 by-tests false fine c = refl
 
-pub judged-as : (k : ℕ) (c : Command) {right fine : Bool} {f : Fields} → right ≡ eqb k (check c) → fine ≡ good c → f ≡ fieldsOf c
-    → cond right (cond fine (record { answer = 0; used = size c; fields = f }) (refused 4)) (refused 3) ≡ judge k c
-unfolding judge
-judged-as k c r g e = rw (r, g, e) (by-tests (eqb k (check c)) (good c) c)
+pub judged-as : (k : ℕ) (c : Command) {right fine : Bool} {f : Fields} → right ≡ eqb k (checkOf c) → fine ≡ good c → f ≡ fieldsOf c
+    → cond right (cond fine (record { answer = 0; used = frameSize c; fields = f }) (refusedRead 4)) (refusedRead 3) ≡ testedValues k c
+unfolding testedValues
+judged-as k c r g e = rw (r, g, e) (by-tests (eqb k (checkOf c)) (good c) c)
 
 -- by the answer of the tests of shape
 module _ (s : List ℕ) (count : ℕ) where
@@ -89,14 +89,14 @@ module _ (s : List ℕ) (count : ℕ) where
   then-values =
       first-append (shapeTests s count) (valueTests (checkIn s) (commandIn s count)) (shape-refuses s count)
 
-  pub read-refused : (firstOf (shapeTests s count) ≡ 0 → ⊥) → refused (firstOf (shapeTests s count)) ≡ readFrame s count
+  pub read-refused : (firstOf (shapeTests s count) ≡ 0 → ⊥) → refusedRead (firstOf (shapeTests s count)) ≡ readFrame s count
   unfolding readFrame
   read-refused h =
       let e = ne-eqb (firstOf (shapeTests s count)) 0 h in
       sym (ap (λ (a : ℕ). answered a (commandIn s count)) (rw e at then-values) ∙ simp e)
 
-  pub read-judged : firstOf (shapeTests s count) ≡ 0 → judge (checkIn s) (commandIn s count) ≡ readFrame s count
-  unfolding readFrame judge
+  pub read-judged : firstOf (shapeTests s count) ≡ 0 → testedValues (checkIn s) (commandIn s count) ≡ readFrame s count
+  unfolding readFrame testedValues
   read-judged h =
       let e = eq-eqb (firstOf (shapeTests s count)) 0 h in
       sym (ap (λ (a : ℕ). answered a (commandIn s count)) (rw e at then-values))

@@ -5,12 +5,12 @@ use lib.ListN.{take}
 use Rattle.bits.specs.Fields.{field}
 use Rattle.commands.specs.declared.Init.{Init}
 use Rattle.commands.specs.declared.Setting.{Setting}
-use Rattle.commands.specs.Commands.{Command, Command.init, Command.update, Command.stop, Command.single, ident, listed, check}
+use Rattle.commands.specs.Commands.{Command, Command.init, Command.update, Command.stop, Command.single, identOf, countOf, checkOf}
 use Rattle.frames.specs.Layout.{sizeFor}
 
 -- how many
-abbrev pub size : Command → ℕ
-size c = sizeFor (ident c) (listed c)
+abbrev pub frameSize : Command → ℕ
+frameSize c = sizeFor (identOf c) (countOf c)
 
 -- the first byte of all but Init: bit 7, Ident 2, Check 5
 abbrev pub head : ℕ → ℕ → ℕ
@@ -34,7 +34,7 @@ settingsBytes [] = []
 settingsBytes (v ∷ vs) = entryBytes 5 (v .mode) (v .width) (v .current) ++ settingsBytes vs
 
 abbrev pub frame : Command → List ℕ
-frame (init v) = initBytes (initNumber (check (init v)) v)
-frame (update count entries) = head 1 (check (update count entries)) ∷ settingsBytes (take count entries)
-frame stop = head 2 (check stop) ∷ []
-frame (single v) = head 3 (check (single v)) ∷ entryBytes 4 (v .channel) (v .width) (v .current)
+frame (init v) = initBytes (initNumber (checkOf (init v)) v)
+frame (update count entries) = head 1 (checkOf (update count entries)) ∷ settingsBytes (take count entries)
+frame stop = head 2 (checkOf stop) ∷ []
+frame (single v) = head 3 (checkOf (single v)) ∷ entryBytes 4 (v .channel) (v .width) (v .current)

@@ -10,11 +10,11 @@ use Rattle.commands.specs.declared.Setting.{Setting}
 use Rattle.commands.specs.declared.Single.{Single}
 use Rattle.commands.specs.Answers.{Test, _when_, firstOf}
 use Rattle.commands.specs.Ranges.{goodCount}
-use Rattle.commands.specs.Commands.{Command, Command.init, Command.update, Command.stop, Command.single, noSetting, check, good}
+use Rattle.commands.specs.Commands.{Command, Command.init, Command.update, Command.stop, Command.single, noSetting, checkOf, good}
 use Rattle.frames.specs.declared.Fields.{Fields}
 use Rattle.frames.specs.declared.Read.{Read}
 use Rattle.frames.specs.Layout.{identIn, sizeFor, commandIn, checkIn}
-use Rattle.frames.specs.Bytes.{size}
+use Rattle.frames.specs.Bytes.{frameSize}
 
 -- the bytes after the first, up to the end of a frame of so many bytes
 abbrev pub later : ℕ → List ℕ → List ℕ
@@ -35,7 +35,7 @@ shapeTests s count =
 
 -- 3; 4
 abbrev pub valueTests : ℕ → Command → List Test
-valueTests k c = 3 when not (eqb k (check c)) ∷ 4 when not (good c) ∷ []
+valueTests k c = 3 when not (eqb k (checkOf c)) ∷ 4 when not (good c) ∷ []
 
 -- ---- what is handed back: the fields of the command, all others zero
 
@@ -58,18 +58,18 @@ fieldsOf stop = record { ident = 2; init = noInit; entries = noEntries; single =
 fieldsOf (single v) = record { ident = 3; init = noInit; entries = noEntries; single = v }
 
 abbrev pub found : Command → Read
-found c = record { answer = 0; used = size c; fields = fieldsOf c }
+found c = record { answer = 0; used = frameSize c; fields = fieldsOf c }
 
 -- a refused reader reports 0 bytes and all fields zero
-abbrev pub refused : ℕ → Read
-refused a = record { answer = a; used = 0; fields = noFields }
+abbrev pub refusedRead : ℕ → Read
+refusedRead a = record { answer = a; used = 0; fields = noFields }
 
 abbrev pub answered : ℕ → Command → Read
-answered a c = cond (eqb a 0) (found c) (refused a)
+answered a c = cond (eqb a 0) (found c) (refusedRead a)
 
 -- a frame of the right shape, by its Check and its command
-unfoldable pub judge : ℕ → Command → Read
-judge k c = answered (firstOf (valueTests k c)) c
+unfoldable pub testedValues : ℕ → Command → Read
+testedValues k c = answered (firstOf (valueTests k c)) c
 
 unfoldable pub readFrame : List ℕ → ℕ → Read
 readFrame s count =

@@ -8,7 +8,7 @@ use lib.Dec.{eqb}
 use lib.ListN.{getD}
 use borrow.Author.Tests.{not-false, eqb-true}
 use Rattle.commands.specs.Answers.{Test, _when_, firstOf}
-use Rattle.commands.specs.Commands.{Command, check, good}
+use Rattle.commands.specs.Commands.{Command, checkOf, good}
 use Rattle.commands.proofs.Tests.{Refusing, passed}
 use Rattle.model.specs.declared.Profile.{Profile}
 use Rattle.model.specs.declared.Core.{Core}
@@ -23,7 +23,7 @@ unrefused (t ∷ ts) r e (suc i) = unrefused ts (r .1) (passed (t .holds) (t .an
 
 -- the tests, each passed
 pub record Accepted (p : Profile) (m : Core) (k : ℕ) (c : Command) : Type 0 where
-  pub right-check : k ≡ check c
+  pub right-check : k ≡ checkOf c
   pub untripped : (isUpdate c || isSingle c) && isTripped m ≡ false
   pub values : good c ≡ true
   pub has-list : isUpdate c && not (isRunning m) ≡ false
@@ -40,7 +40,7 @@ accepted p m k c e =
     unrefused (refusals m k c ++ 9 when overLimit p m c ∷ [])
     (omega arith, (omega arith, (omega arith, (omega arith, (omega arith, (omega arith, (omega arith, (omega arith, tt)))))))) e in
     record {
-      right-check = eqb-true k (check c) (not-false (eqb k (check c)) (t 0));
+      right-check = eqb-true k (checkOf c) (not-false (eqb k (checkOf c)) (t 0));
       untripped = t 1;
       values = not-false (good c) (t 2);
       has-list = t 3;

@@ -8,7 +8,7 @@ use lib.Dec.{leb, ltb}
 use lib.ListN.{length, length-append}
 use borrow.Author.Tests.{leb-true}
 use Rattle.commands.specs.Ranges.{goodPulse}
-use Rattle.commands.specs.Commands.{Command, Command.init, Command.update, Command.stop, Command.single, ident, good}
+use Rattle.commands.specs.Commands.{Command, Command.init, Command.update, Command.stop, Command.single, identOf, good}
 use Rattle.commands.proofs.Tests.{both}
 use Rattle.frames.specs.Layout.{checkIn}
 use Rattle.trace.specs.declared.Record.{Record}
@@ -68,7 +68,7 @@ taken-releases p s alone = behind (s .clock) 1 _ nothing
 taken-releases p s (growing q) = bare nothing
 taken-releases p s (whole bytes) =
     let c : Command = commandOf bytes in
-    behind (s .clock) (ident c) _ (carry-behind p (s .clock) (s .core) (checkIn bytes) c)
+    behind (s .clock) (identOf c) _ (carry-behind p (s .clock) (s .core) (checkIn bytes) c)
 
 -- ---- a tick
 

@@ -5,7 +5,7 @@ use mathlib.Core.List.{List, [], _∷_, _++_}
 use lib.Dec.{eqb}
 use lib.ListN.{length}
 use Rattle.bits.specs.High.{high}
-use Rattle.commands.specs.Commands.{Command, ident}
+use Rattle.commands.specs.Commands.{Command, identOf}
 use Rattle.commands.specs.Reply.{reply}
 use Rattle.frames.specs.Layout.{identIn, sizeFor, commandIn, checkIn}
 use Rattle.trace.specs.declared.Record.{Record}
@@ -66,7 +66,7 @@ abbrev pub commandOf : List ℕ → Command
 commandOf s = commandIn s (length s / 3)
 
 unfoldable pub judged : Profile → ℕ → Core → ℕ → Command → Result
-judged p clock m k c = let a : ℕ = judge p m k c in decided clock (ident c) a (carry clock m c a)
+judged p clock m k c = let a : ℕ = judge p m k c in decided clock (identOf c) a (carry clock m c a)
 
 unfoldable pub taken : Profile → State → Arrival → Result
 taken p s stray = record { state = s; answer = 2; reply = 0; records = [] }

@@ -6,7 +6,7 @@ use lib.Dec.{ltb, eqb}
 use lib.ListN.{set}
 use Rattle.commands.specs.declared.Setting.{Setting}
 use Rattle.commands.specs.Answers.{Test, _when_, firstOf}
-use Rattle.commands.specs.Commands.{Command, Command.init, Command.update, Command.stop, Command.single, ident, check, good}
+use Rattle.commands.specs.Commands.{Command, Command.init, Command.update, Command.stop, Command.single, identOf, checkOf, good}
 use Rattle.model.specs.declared.Profile.{Profile}
 use Rattle.model.specs.declared.Core.{Core}
 use Rattle.model.specs.Channels.{silence, placed}
@@ -15,10 +15,10 @@ use Rattle.model.specs.Profiles.{overLimits}
 use Rattle.model.specs.State.{isRunning, isTripped}
 
 abbrev pub isUpdate : Command → Bool
-isUpdate c = eqb (ident c) 1
+isUpdate c = eqb (identOf c) 1
 
 abbrev pub isSingle : Command → Bool
-isSingle c = eqb (ident c) 3
+isSingle c = eqb (identOf c) 3
 
 -- the settings that a command asks for: an Update's, or a Single's on its channel alone
 unfoldable pub asked : Core → Command → List Setting
@@ -64,7 +64,7 @@ lateRefusals m c =
 -- all tests that do not read the profile; the first number is the frame's own Check
 unfoldable pub refusals : Core → ℕ → Command → List Test
 refusals m k c =
-    3 when not (eqb k (check c))
+    3 when not (eqb k (checkOf c))
     ∷ 10 when ((isUpdate c || isSingle c) && isTripped m)
     ∷ 4 when not (good c)
     ∷ lateRefusals m c

@@ -22,9 +22,9 @@ pub record State : Type 0 where
 
 -- by state: 0 idle, 1 running, 2 tripped; a good record has no number above, which counts as tripped
 abbrev pub byState {ℓ} : {A : Type ℓ} → ℕ → A → A → A → A
-byState zero idle running tripped = idle
-byState (suc zero) idle running tripped = running
-byState (suc (suc n)) idle running tripped = tripped
+byState zero whenIdle whenRunning whenTripped = whenIdle
+byState (suc zero) whenIdle whenRunning whenTripped = whenRunning
+byState (suc (suc n)) whenIdle whenRunning whenTripped = whenTripped
 
 abbrev pub isRunning : Core → Bool
 isRunning m = byState (m .state) false true false

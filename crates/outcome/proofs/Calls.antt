@@ -7,7 +7,7 @@ use borrow.Author.Tests.{eq-eqb, ne-eqb}
 use Rattle.model.specs.Machine.{Call, step}
 use Rattle.record.specs.declared.Box.{Box}
 use Rattle.record.specs.Box.{stateOf, goodBox}
-use Rattle.outcome.specs.Step.{refused, carried, refusal, stepOf}
+use Rattle.outcome.specs.Step.{refusedStep, carried, refusal, stepOf}
 
 -- only a good record is not refused
 good-if : (good : Bool) (ring : ℕ) → cond good ring 12 ≡ 0 → good ≡ true
@@ -22,6 +22,6 @@ module _ (b : Box) (ring a : ℕ) (e : a ≡ refusal b ring) where
   unfolding stepOf
   call-taken c z = rw (eq-eqb (refusal b ring) 0 (sym e ∙ z))
 
-  pub call-refused : (c : Call) → (a ≡ 0 → ⊥) → refused a b ≡ stepOf b ring c
+  pub call-refused : (c : Call) → (a ≡ 0 → ⊥) → refusedStep a b ≡ stepOf b ring c
   unfolding stepOf
   call-refused c n = rw (← e, ne-eqb a 0 n)

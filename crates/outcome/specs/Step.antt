@@ -12,8 +12,8 @@ use Rattle.outcome.specs.declared.Stepped.{Stepped}
 use Rattle.said.specs.Said.{nothing, saidOf, recordsOf}
 
 -- a refusal leaves all
-abbrev pub refused : ℕ → Box → Stepped
-refused answer b = record { said = record { answer = answer; reply = 0; a = nothing; b = nothing }; records = recordsOf []; next = b }
+abbrev pub refusedStep : ℕ → Box → Stepped
+refusedStep answer b = record { said = record { answer = answer; reply = 0; a = nothing; b = nothing }; records = recordsOf []; next = b }
 
 -- the step's answer and records, and the record that carries its state
 unfoldable pub carried : Box → Result → Stepped
@@ -25,4 +25,4 @@ refusal b ring = cond (goodBox b) ring 12
 
 unfoldable pub stepOf : Box → ℕ → Call → Stepped
 stepOf b ring c =
-    cond (eqb (refusal b ring) 0) (carried b (step (b .profile) (stateOf b) c)) (refused (refusal b ring) b)
+    cond (eqb (refusal b ring) 0) (carried b (step (b .profile) (stateOf b) c)) (refusedStep (refusal b ring) b)

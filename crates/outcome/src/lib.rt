@@ -5,7 +5,7 @@ use record::Box;
 use said::Records;
 use said::Said;
 ghost use mathlib.Core.Path.{_≡_};
-ghost use Rattle.outcome.specs.Step.{refusal, refused};
+ghost use Rattle.outcome.specs.Step.{refusal, refusedStep};
 
 // What a call gives back, and the box that it leaves.
 pub struct Stepped {
@@ -16,7 +16,7 @@ pub struct Stepped {
 
 // A refusal leaves all.
 pub fn refuse(answer: u8, b: Box) -> Stepped
-    ensures { λ r. ⌜ r ≡ refused answer b ⌝ }
+    ensures { λ r. ⌜ r ≡ refusedStep answer b ⌝ }
 {
     Stepped {
         said: said::say(answer, 0),

@@ -8,7 +8,7 @@ use frames::Read;
 ghost use mathlib.Core.Path.{_≡_};
 ghost use Rattle.commands.specs.Answers.{firstOf};
 ghost use Rattle.frames.specs.Layout.{commandIn, checkIn};
-ghost use Rattle.frames.specs.Reader.{shapeTests, judge, readFrame};
+ghost use Rattle.frames.specs.Reader.{shapeTests, testedValues, readFrame};
 
 // The frame at the front of s, whose list has `count` channels.
 pub fn read_frame(s: &[u8], count: usize) -> Read
@@ -24,7 +24,7 @@ pub fn read_frame(s: &[u8], count: usize) -> Read
 // A frame of the right shape, by its kind.
 fn read_kind(s: &[u8], count: usize) -> Read
     requires { ⌜ firstOf (shapeTests (now s) count) ≡ 0 ⌝ }
-    ensures { λ r. ⌜ r ≡ judge (checkIn (now (s .entry))) (commandIn (now (s .entry)) count) ⌝ }
+    ensures { λ r. ⌜ r ≡ testedValues (checkIn (now (s .entry))) (commandIn (now (s .entry)) count) ⌝ }
 {
     let first = s[0];
     let ident = frames::ident_of(first);

@@ -12,7 +12,7 @@ ghost use lib.ListN.{length, getD};
 ghost use Rattle.bits.specs.Fields.{field};
 ghost use Rattle.commands.specs.Commands.{Command.init, Command.update, Command.stop, Command.single};
 ghost use Rattle.frames.specs.Layout.{initWord, initOf, entriesIn, singleIn};
-ghost use Rattle.frames.specs.Reader.{noFields, refused, judge};
+ghost use Rattle.frames.specs.Reader.{noFields, refusedRead, testedValues};
 
 fn nothing() -> Fields
     ensures { λ r. ⌜ r ≡ noFields ⌝ }
@@ -26,7 +26,7 @@ fn nothing() -> Fields
 }
 
 pub fn refuse(answer: u8) -> Read
-    ensures { λ r. ⌜ r ≡ refused answer ⌝ }
+    ensures { λ r. ⌜ r ≡ refusedRead answer ⌝ }
 {
     let fields = nothing();
     Read {
@@ -38,7 +38,7 @@ pub fn refuse(answer: u8) -> Read
 
 // 3; 4; else the fields.
 fn judged(right: bool, good: bool, used: u8, fields: Fields) -> Read
-    ensures { λ r. ⌜ r ≡ cond right (cond good (record { answer = 0; used = used; fields = fields }) (refused 4)) (refused 3) ⌝ }
+    ensures { λ r. ⌜ r ≡ cond right (cond good (record { answer = 0; used = used; fields = fields }) (refusedRead 4)) (refusedRead 3) ⌝ }
 {
     if right {
         if good {
@@ -55,7 +55,7 @@ fn judged(right: bool, good: bool, used: u8, fields: Fields) -> Read
 
 pub fn read_init(s: &[u8]) -> Read
     requires { ⌜ 6 ≤ length (now s) ⌝ }
-    ensures { λ r. ⌜ r ≡ judge (field (initWord (now (s .entry))) 37 3) (init (initOf (initWord (now (s .entry))))) ⌝ }
+    ensures { λ r. ⌜ r ≡ testedValues (field (initWord (now (s .entry))) 37 3) (init (initOf (initWord (now (s .entry))))) ⌝ }
 {
     let w = layout::init_word(s);
     let v = layout::init_of(w);
@@ -72,7 +72,7 @@ pub fn read_init(s: &[u8]) -> Read
 
 pub fn read_update(s: &[u8], count: usize) -> Read
     requires { ⌜ (count ≤ 8) × (1 + 3 * count ≤ length (now s)) ⌝ }
-    ensures { λ r. ⌜ r ≡ judge (field (getD (now (s .entry)) 0 0) 0 5) (update count (entriesIn (now (s .entry)) count)) ⌝ }
+    ensures { λ r. ⌜ r ≡ testedValues (field (getD (now (s .entry)) 0 0) 0 5) (update count (entriesIn (now (s .entry)) count)) ⌝ }
 {
     let entries = layout::entries_in(s, count);
     let right = layout::check_of(s[0]) == checks::check_update(entries);
@@ -85,7 +85,7 @@ pub fn read_update(s: &[u8], count: usize) -> Read
 }
 
 pub fn read_stop(first: u8) -> Read
-    ensures { λ r. ⌜ r ≡ judge (field first 0 5) stop ⌝ }
+    ensures { λ r. ⌜ r ≡ testedValues (field first 0 5) stop ⌝ }
 {
     let mut fields = nothing();
     fields.ident = idents::STOP;
@@ -99,7 +99,7 @@ pub fn read_stop(first: u8) -> Read
 
 pub fn read_single(s: &[u8]) -> Read
     requires { ⌜ 4 ≤ length (now s) ⌝ }
-    ensures { λ r. ⌜ r ≡ judge (field (getD (now (s .entry)) 0 0) 0 5) (single (singleIn (now (s .entry)))) ⌝ }
+    ensures { λ r. ⌜ r ≡ testedValues (field (getD (now (s .entry)) 0 0) 0 5) (single (singleIn (now (s .entry)))) ⌝ }
 {
     let v = layout::single_in(s);
     let right = layout::check_of(s[0]) == checks::check_single(v);

@@ -21,13 +21,13 @@ released clock channel width current = record { clock = clock; channel = channel
 abbrev pub pulseRecord : Released → Record
 pulseRecord x = Pulse (x .clock) (x .channel) (x .width) (x .current)
 
--- the first pulse, among a call's records, of the channels from low to high
+-- the first pulse, among a call's records, of the channels from least to most
 unfoldable pub pulseOf : ℕ → ℕ → List Record → Released
-pulseOf low high [] = nothing
-pulseOf low high (Answer clock ident answer ∷ xs) = pulseOf low high xs
-pulseOf low high (Pulse clock channel width current ∷ xs) =
-    cond (within low channel high) (released clock channel width current) (pulseOf low high xs)
-pulseOf low high (Trip clock cause ∷ xs) = pulseOf low high xs
+pulseOf least most [] = nothing
+pulseOf least most (Answer clock ident answer ∷ xs) = pulseOf least most xs
+pulseOf least most (Pulse clock channel width current ∷ xs) =
+    cond (within least channel most) (released clock channel width current) (pulseOf least most xs)
+pulseOf least most (Trip clock cause ∷ xs) = pulseOf least most xs
 
 -- a pulse of module A (channels 1 to 4) and one of module B (5 to 8)
 unfoldable pub saidOf : Result → Said

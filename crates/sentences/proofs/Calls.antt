@@ -15,13 +15,13 @@ use Rattle.record.specs.Box.{goodBox}
 use Rattle.outcome.specs.Claims.{stepped}
 use Rattle.outcome.proofs.Calls.{good-taken}
 use Rattle.calls.specs.Filed.{Answered}
-use Rattle.calls.specs.Calls.{refusalOf, turnedAway, given, callOf}
+use Rattle.calls.specs.Calls.{refusalOf, turnedAway, stepFiled, callOf}
 use Rattle.demands.proofs.Answers.{first-passes}
 
 module _ (b : Box) (buf : List ℕ) (at : Part) where
   -- a good box with its ring in its place is given the step, and any other is turned away
   pub call-ways : (P : Answered → Type 0) (c : Call)
-      → (goodBox b ≡ true → readyAnswer buf at (b .ring) ≡ 0 → P (given b buf at (stepped b c))) → P (turnedAway b buf (refusalOf b buf at))
+      → (goodBox b ≡ true → readyAnswer buf at (b .ring) ≡ 0 → P (stepFiled b buf at (stepped b c))) → P (turnedAway b buf (refusalOf b buf at))
       → P (callOf b buf at c)
   unfolding callOf
   call-ways P c takes refuses =

@@ -4,7 +4,7 @@ use mathlib.Core.Bool.{true, not, false≢true}
 use mathlib.Core.Path.{_≡_, refl}
 use mathlib.Core.List.{List, [], _∷_}
 use borrow.Author.Tests.{not-true}
-use Rattle.commands.specs.Commands.{Command, ident}
+use Rattle.commands.specs.Commands.{Command, identOf}
 use Rattle.frames.specs.Layout.{checkIn}
 use Rattle.trace.specs.declared.Part.{Part}
 use Rattle.trace.specs.declared.Record.the-variants.{Answer}
@@ -24,7 +24,7 @@ use Rattle.record.specs.declared.Box.{Box}
 use Rattle.record.specs.Box.{stateOf, boxOf}
 use Rattle.said.specs.Said.{pulseOf, saidOf}
 use Rattle.outcome.specs.Claims.{stepped}
-use Rattle.calls.specs.Calls.{given}
+use Rattle.calls.specs.Calls.{stepFiled}
 use Rattle.demands.proofs.Filed.{filed-outside, filed-capacity}
 use Rattle.sentences.specs.WhichAnswers.{isOneOf}
 use Rattle.sentences.specs.FrameDropped.{dropping, Dropped, DropsFrame}
@@ -67,7 +67,7 @@ taken-drops p s (growing q) h = absurd (false≢true h)
 taken-drops p s (whole bytes) h =
     let c = commandOf bytes in
     let l = carry-left (s .clock) (s .core) c (judge p (s .core) (checkIn bytes) c) h in
-    record { watch = l .watch; same-state = rw (l .same-core); kind = ident c; one-record = rw (l .no-record) }
+    record { watch = l .watch; same-state = rw (l .same-core); kind = identOf c; one-record = rw (l .no-record) }
 
 step-drops : (p : Profile) (s : State) (c : Call) → isOneOf dropping (step p s c .answer) ≡ true → Drops s (step p s c)
 unfolding step byteStep
@@ -78,8 +78,8 @@ step-drops p s tick =
 -- ---- the box
 
 module _ (b : Box) (buf : List ℕ) (at : Part) (c : Call) where
-  given-drops : readyAnswer buf at (b .ring) ≡ 0 → isOneOf dropping (stepped b c .answer) ≡ true → Dropped b buf at (given b buf at (stepped b c))
-  unfolding given boxOf stateOf frameOf saidOf pulseOf
+  given-drops : readyAnswer buf at (b .ring) ≡ 0 → isOneOf dropping (stepped b c .answer) ≡ true → Dropped b buf at (stepFiled b buf at (stepped b c))
+  unfolding stepFiled boxOf stateOf frameOf saidOf pulseOf
   given-drops ready h =
       let d = step-drops (b .profile) (stateOf b) c h in
       record {
@@ -104,7 +104,7 @@ module _ (b : Box) (buf : List ℕ) (at : Part) (c : Call) where
       }
 
 pub drops-frame : DropsFrame
-unfolding saidOf given
+unfolding saidOf stepFiled
 drops-frame b buf at c =
     call-ways b buf at (λ r. isOneOf dropping (r .called .said .answer) ≡ true → Dropped b buf at r) c
     (λ g ready. given-drops b buf at c ready)

@@ -9,7 +9,7 @@ use lib.ListN.{length, length-append}
 use borrow.Author.Tests.{eq-eqb, ne-eqb, not-true}
 use Rattle.bits.specs.High.{high}
 use Rattle.commands.specs.declared.Setting.{Setting}
-use Rattle.commands.specs.Commands.{Command.update, check}
+use Rattle.commands.specs.Commands.{Command.update, checkOf}
 use Rattle.frames.specs.Layout.{identIn, checkIn}
 use Rattle.frames.proofs.Idents.{update-here}
 use Rattle.model.specs.declared.Profile.{Profile}
@@ -49,7 +49,7 @@ module _ (p : Profile) (clock : ℕ) (m : Core) (t : isTripped m ≡ true) where
   -- a finished Update
   judge-update : (n k count : ℕ) (entries : List Setting) → isOneOf (finishing (byte n) 1) (judge p m k (update count entries)) ≡ true
   unfolding judge refusals
-  judge-update n k count entries = either-way (eqb k (check (update count entries))) (λ e. rw (e, t)) (λ e. rw e)
+  judge-update n k count entries = either-way (eqb k (checkOf (update count entries))) (λ e. rw (e, t)) (λ e. rw e)
 
   update-done : (n k count : ℕ) (entries : List Setting) → Goes (finishing (byte n) 1) 0 (judged p clock m k (update count entries))
   unfolding judged decided accept

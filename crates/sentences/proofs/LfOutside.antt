@@ -7,7 +7,7 @@ use native.Mathlib.Omega.{arith}
 use borrow.Author.Tests.{le-leb, lt-leb}
 use Rattle.bits.specs.Fields.{field}
 use Rattle.commands.specs.declared.Init.{Init}
-use Rattle.commands.specs.Commands.{Command.init, check, good}
+use Rattle.commands.specs.Commands.{Command.init, checkOf, good}
 use Rattle.frames.specs.Layout.{checkIn}
 use Rattle.frames.specs.Bytes.{initNumber, frame}
 use Rattle.model.specs.declared.Profile.{Profile}
@@ -40,7 +40,7 @@ unfolding judged decided
 judged-alike p clock m v lf inside =
     let own : ℕ = m .run .list .lf in
     let j = init-judged m own (λ i h. refl) p v lf in
-    (sym j, rw j (apart clock (init-alike m own (λ i h. refl) clock v lf inside (judge p m (check (init v)) (init v)))))
+    (sym j, rw j (apart clock (init-alike m own (λ i h. refl) clock v lf inside (judge p m (checkOf (init v)) (init v)))))
 
 -- any calls are the same
 same-row : (cs : List Call) → SameCalls cs cs
@@ -53,7 +53,7 @@ frames-alike p s t (lf-apart u lf h) cs ds c = same-calls-on p c (u .partial) (u
 -- the frame of a good Init
 frames-there : (v : Init) → Held (init v) → good (init v) ≡ true → InitFrame (frame (init v)) v
 frames-there v held g =
-    let w = initNumber (check (init v)) v in
+    let w = initNumber (checkOf (init v)) v in
     let h = init-there w v [] (init-number v held g) in
     record {
       six = refl;

@@ -9,7 +9,7 @@ use lib.ListN.{length, getD, drop, length-append}
 use borrow.Author.Tests.{eq-eqb, ne-eqb, not-true}
 use Rattle.bits.specs.High.{high}
 use Rattle.commands.specs.declared.Init.{Init}
-use Rattle.commands.specs.Commands.{Command.init, ident, check}
+use Rattle.commands.specs.Commands.{Command.init, identOf, checkOf}
 use Rattle.commands.proofs.Tests.{both}
 use Rattle.frames.specs.Layout.{identIn, checkIn}
 use Rattle.frames.proofs.Idents.{update-here, stop-here, single-here, for-each-ident}
@@ -78,7 +78,7 @@ module _ (p : Profile) (cs ds : List Call) where
   taken-on k q clock m lf h (growing f) = then-same (k f clock m lf h)
   taken-on k q clock m lf h (whole bytes) =
       let c = commandOf bytes in
-      rw (judge-alike m lf h p (checkIn bytes) c) (decided-on (k noFrame) clock (ident c) _ (carry-alike m lf h clock c (judge p m (checkIn bytes) c)))
+      rw (judge-alike m lf h p (checkIn bytes) c) (decided-on (k noFrame) clock (identOf c) _ (carry-alike m lf h clock c (judge p m (checkIn bytes) c)))
 
   byte-on : ((q : Partial) → Alikes p q q cs ds) → (n : ℕ) (q : Partial) → Alikes p q q (byte n ∷ cs) (byte n ∷ ds)
   unfolding run step byteStep arrive opened
@@ -117,7 +117,7 @@ module _ (p : Profile) (cs ds : List Call) (v : Init) (other : ℕ) (inside : Sa
   unfolding judged
   last-on clock m lf h =
       rw (f .as-init, f .right-check, g .as-init, g .right-check, init-judged m lf h p v other)
-      (decided-on p cs ds k clock 0 _ (init-alike m lf h clock v other inside (judge p m (check (init v)) (init v))))
+      (decided-on p cs ds k clock 0 _ (init-alike m lf h clock v other inside (judge p m (checkOf (init v)) (init v))))
 
   -- what is to come of the two
   low-on : (gaps done gone rest other-rest : List ℕ) → Progress done rest one → Progress gone other-rest two → 0 < length rest
@@ -140,9 +140,9 @@ module _ (p : Profile) (cs ds : List Call) (v : Init) (other : ℕ) (inside : Sa
 -- an Init's frame has Ident 0
 init-ident : {bytes : List ℕ} {v : Init} → InitFrame bytes v → identIn bytes ≡ 0
 init-ident {bytes} f =
-    for-each-ident bytes (λ e. e) (λ e. absurd (omega (arith, ap ident (sym (update-here bytes _ e) ∙ f .as-init))))
-    (λ e. absurd (omega (arith, ap ident (sym (stop-here bytes _ e) ∙ f .as-init))))
-    (λ e. absurd (omega (arith, ap ident (sym (single-here bytes _ e) ∙ f .as-init))))
+    for-each-ident bytes (λ e. e) (λ e. absurd (omega (arith, ap identOf (sym (update-here bytes _ e) ∙ f .as-init))))
+    (λ e. absurd (omega (arith, ap identOf (sym (stop-here bytes _ e) ∙ f .as-init))))
+    (λ e. absurd (omega (arith, ap identOf (sym (single-here bytes _ e) ∙ f .as-init))))
 
 -- all of the two, whatever frame was open
 frames-on : (p : Profile) (cs ds : List Call) (v : Init) (other : ℕ) → SameInside v other → (one two : List ℕ)

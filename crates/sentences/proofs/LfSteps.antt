@@ -5,7 +5,7 @@ use mathlib.Core.List.{List, _++_}
 use lib.Dec.{leb, eqb}
 use borrow.Author.Tests.{eq-eqb}
 use Rattle.commands.specs.declared.Init.{Init}
-use Rattle.commands.specs.Commands.{Command, Command.init, Command.update, Command.stop, Command.single, check}
+use Rattle.commands.specs.Commands.{Command, Command.init, Command.update, Command.stop, Command.single, checkOf}
 use Rattle.trace.specs.declared.Record.{Record}
 use Rattle.model.specs.declared.Profile.{Profile}
 use Rattle.model.specs.declared.Run.{Run}
@@ -67,10 +67,10 @@ module _ (m : Core) (lf : ℕ) (h : SameInside (m .run .list) lf) where
 
   -- an Init with its right check is judged as one that differs so
   pub init-judged : (p : Profile) (v : Init) (other : ℕ)
-      → judge p (coreWithLf m lf) (check (init (withLf v other))) (init (withLf v other)) ≡ judge p m (check (init v)) (init v)
+      → judge p (coreWithLf m lf) (checkOf (init (withLf v other))) (init (withLf v other)) ≡ judge p m (checkOf (init v)) (init v)
   unfolding judge refusals breaksTiming inHold overLimit keepsModules keepsMain
   init-judged p v other =
-      rw (eq-eqb (check (init v)) (check (init v)) refl, eq-eqb (check (init (withLf v other))) (check (init (withLf v other))) refl)
+      rw (eq-eqb (checkOf (init v)) (checkOf (init v)) refl, eq-eqb (checkOf (init (withLf v other))) (checkOf (init (withLf v other))) refl)
 
   pub init-alike : (clock : ℕ) (v : Init) (other : ℕ) → SameInside v other → (answer : ℕ)
       → Alike (carry clock m (init v) answer) (carry clock (coreWithLf m lf) (init (withLf v other)) answer)

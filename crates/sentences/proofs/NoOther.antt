@@ -10,7 +10,7 @@ use Rattle.commands.specs.Answers.{Test, _when_, firstOf}
 use Rattle.commands.specs.Commands.{Command, good}
 use Rattle.commands.proofs.Tests.{both}
 use Rattle.frames.specs.Layout.{commandIn, checkIn}
-use Rattle.frames.specs.Bytes.{size}
+use Rattle.frames.specs.Bytes.{frameSize}
 use Rattle.frames.specs.Reader.{shapeTests, valueTests, readFrame}
 use Rattle.writers.specs.Writer.{wrote}
 use Rattle.trace.specs.declared.Part.{Part}
@@ -26,7 +26,7 @@ use Rattle.record.specs.declared.Box.{Box}
 use Rattle.record.specs.Box.{stateOf, goodBox}
 use Rattle.said.specs.Said.{saidOf}
 use Rattle.calls.specs.Making.{makeOf}
-use Rattle.calls.specs.Calls.{given}
+use Rattle.calls.specs.Calls.{stepFiled}
 use Rattle.calls.specs.Readout.{readoutOf}
 use Rattle.demands.proofs.Answers.{first-passes, byte-most}
 use Rattle.sentences.specs.WhichAnswers.{isOneOf, toByte, toTick, toReadout, toMaking, ofReader, ofWriter, Gives}
@@ -40,7 +40,7 @@ allOf numbers (n ∷ ns) = isOneOf numbers n && allOf numbers ns
 module _ {numbers : List ℕ} (zero-too : isOneOf numbers 0 ≡ true) where
   pub byte-gives : allBelow 11 (isOneOf numbers) ≡ true → allOf numbers (12 ∷ 13 ∷ 14 ∷ []) ≡ true
       → (inputs : List (Box × List ℕ × Part × ℕ)) → map toByte inputs ≡ numbers → Gives toByte numbers
-  unfolding given saidOf
+  unfolding stepFiled saidOf
   byte-gives below above inputs each =
       record {
         no-other = λ x.
@@ -54,7 +54,7 @@ module _ {numbers : List ℕ} (zero-too : isOneOf numbers 0 ≡ true) where
 
   pub tick-gives : isOneOf numbers 15 ≡ true → allOf numbers (12 ∷ 13 ∷ 14 ∷ []) ≡ true
       → (inputs : List (Box × List ℕ × Part)) → map toTick inputs ≡ numbers → Gives toTick numbers
-  unfolding given saidOf step
+  unfolding stepFiled saidOf step
   tick-gives end above inputs each =
       record {
         no-other = λ x.
@@ -109,7 +109,7 @@ module _ {numbers : List ℕ} (zero-too : isOneOf numbers 0 ≡ true) where
   writer-gives above inputs each =
       record {
         no-other = λ x.
-            first-passes (isOneOf numbers) (4 when not (good (x .0)) ∷ 16 when ltb (length (x .1)) (size (x .0)) ∷ []) zero-too above;
+            first-passes (isOneOf numbers) (4 when not (good (x .0)) ∷ 16 when ltb (length (x .1)) (frameSize (x .0)) ∷ []) zero-too above;
         inputs = inputs;
         each = each;
       }

@@ -16,14 +16,14 @@ use Rattle.record.specs.declared.Box.{Box}
 use Rattle.record.specs.Box.{stateOf, boxOf}
 use Rattle.record.proofs.Facts.{box-facts}
 use Rattle.said.specs.Said.{saidOf}
-use Rattle.calls.specs.Calls.{given}
+use Rattle.calls.specs.Calls.{stepFiled}
 use Rattle.sentences.specs.TripKeeps.{KeptByTick, KeptAt9, TripKeeps, EachTripKeeps}
 use Rattle.sentences.proofs.Calls.{call-ways, refusal-passes}
 use Rattle.sentences.proofs.Trips.{tick-trips, byte-trips, byte-9}
 
 module _ (b : Box) (buf : List ℕ) (at : Part) (bytes : length (b .partial .bytes) ≡ 25) where
   trip-keeps : TripKeeps b buf at
-  unfolding given boxOf stateOf frameOf saidOf
+  unfolding stepFiled boxOf stateOf frameOf saidOf
   trip-keeps =
       record {
         by-tick = λ u.

@@ -3,7 +3,7 @@ use Prim.Native.Nat.{ℕ, _+_, _-_}
 use mathlib.Core.Bool.{true, false}
 use mathlib.Core.Path.{_≡_, refl}
 use native.Mathlib.Omega.{arith}
-use Rattle.commands.specs.Commands.{Command, Command.init, Command.update, Command.stop, Command.single, ident}
+use Rattle.commands.specs.Commands.{Command, Command.init, Command.update, Command.stop, Command.single, identOf}
 use Rattle.frames.specs.Layout.{checkIn}
 use Rattle.model.specs.declared.Profile.{Profile}
 use Rattle.model.specs.declared.Core.{Core}
@@ -76,7 +76,7 @@ taken-9 p s (growing q) h = absurd (omega arith)
 taken-9 p s (whole bytes) h =
     let c = commandOf bytes in
     let a = judge p (s .core) (checkIn bytes) c in
-    carry-ways (λ d. LimitTrip s (decided (s .clock) (ident c) a d .state)) (s .clock) (s .core) c a
+    carry-ways (λ d. LimitTrip s (decided (s .clock) (identOf c) a d .state)) (s .clock) (s .core) c a
     (λ e. absurd (omega arith))
     (λ e. record { down = refl; holda = refl; holdb = refl; partial = refl })
     (λ e. absurd (omega arith))

@@ -6,7 +6,7 @@ use lib.ListN.{take, getD, replicate}
 use Rattle.bits.specs.High.{firstHigh}
 use Rattle.commands.specs.Commands.{Command, Command.stop}
 use Rattle.frames.specs.Layout.{initWord, entryIn, commandIn, checkIn}
-use Rattle.frames.specs.Bytes.{size, frame}
+use Rattle.frames.specs.Bytes.{frameSize, frame}
 use Rattle.frames.specs.Reader.{readFrame}
 use Rattle.writers.specs.Writer.{wrote}
 use Rattle.trace.specs.declared.Part.{Part}
@@ -30,7 +30,7 @@ use Rattle.record.specs.declared.Box.{Box}
 use Rattle.record.specs.Box.{stateOf, boxOf, goodBox}
 use Rattle.said.specs.Said.{saidOf}
 use Rattle.calls.specs.Making.{emptyRing, zeroProfile, zeroBox, makeOf}
-use Rattle.calls.specs.Calls.{given, callOf}
+use Rattle.calls.specs.Calls.{stepFiled, callOf}
 use Rattle.calls.specs.Readout.{readoutOf}
 use Rattle.demands.specs.FreshBox.{sent, loosest}
 use Rattle.demands.specs.Cases.{singleOf, initOfEight, init5}
@@ -53,7 +53,7 @@ unsplit = boxOf loosest (record { capacity = 16; start = 0; used = 1 }) fresh
 
 -- the last byte of a command's frame, to a box that has the others
 abbrev lastOf : Profile → List Call → Command → Box × List ℕ × Part × ℕ
-lastOf p cs c = let n : ℕ = size c - 1 in (having p (cs ++ sent (take n (frame c))), buf16, part16, getD (frame c) n 0)
+lastOf p cs c = let n : ℕ = frameSize c - 1 in (having p (cs ++ sent (take n (frame c))), buf16, part16, getD (frame c) n 0)
 
 -- nothing is within these limits
 abbrev tightest : Profile
@@ -63,7 +63,7 @@ abbrev aSingle : Command
 aSingle = singleOf 1 200 20
 
 pub answers-given : AnswersGiven
-unfolding firstHigh initWord entryIn commandIn checkIn readFrame wrote sizeOf splitsAfter fromStart content goodRing goodPart readyAnswer readoutAnswer readOut inSet many t1 t2 keepsModules keepsMain largestMode goodProfile overAt overLimits asked breaksTiming inHold overLimit refusals judge accept carry lengthened opened followed arrive decided judged taken byteStep tickStep step after allGood runInRange inRange onlyListed unlistedZero keepsTiming keepsProfile zeroRun goodSize goodPartial frameOf zeros unusedZero stateOf boxOf goodBox saidOf makeOf given callOf readoutOf
+unfolding firstHigh initWord entryIn commandIn checkIn readFrame wrote sizeOf splitsAfter fromStart content goodRing goodPart readyAnswer readoutAnswer readOut inSet many t1 t2 keepsModules keepsMain largestMode goodProfile overAt overLimits asked breaksTiming inHold overLimit refusals judge accept carry lengthened opened followed arrive decided judged taken byteStep tickStep step after allGood runInRange inRange onlyListed unlistedZero keepsTiming keepsProfile zeroRun goodSize goodPartial frameOf zeros unusedZero stateOf boxOf goodBox saidOf makeOf stepFiled callOf readoutOf
 answers-given =
     record {
       byte-gives = byte-gives refl refl refl

@@ -6,7 +6,7 @@ use mathlib.Core.List.{List, [], _∷_, _++_}
 use lib.ListN.{length, getD, drop}
 use Rattle.bits.specs.High.{high}
 use Rattle.commands.specs.declared.Init.{Init}
-use Rattle.commands.specs.Commands.{Command.init, check, good}
+use Rattle.commands.specs.Commands.{Command.init, checkOf, good}
 use Rattle.frames.specs.Layout.{checkIn}
 use Rattle.frames.specs.Bytes.{frame}
 use Rattle.model.specs.declared.Profile.{Profile}
@@ -56,7 +56,7 @@ pub record InitFrame (bytes : List ℕ) (v : Init) : Type 0 where
   pub first-high : high (getD bytes 0 0) ≡ true
   pub others-low : allLow (drop 1 bytes) ≡ true
   pub as-init : commandOf bytes ≡ init v
-  pub right-check : checkIn bytes ≡ check (init v)
+  pub right-check : checkIn bytes ≡ checkOf (init v)
 
 -- bytes, with so many ticks before each
 abbrev pub spaced : List ℕ → List ℕ → List Call
@@ -72,7 +72,7 @@ pub data SameCalls : List Call → List Call → Type 0 where
 
 -- an Init with its right check
 abbrev pub judgedInit : Profile → ℕ → Core → Init → Result
-judgedInit p clock m v = judged p clock m (check (init v)) (init v)
+judgedInit p clock m v = judged p clock m (checkOf (init v)) (init v)
 
 pub record NoEffect : Type 0 where
   -- two such Inits are judged alike, and leave states that differ only so

@@ -7,16 +7,16 @@ use lib.ListN.{length, drop}
 use Rattle.commands.specs.Answers.{_when_, firstOf}
 use Rattle.commands.specs.Commands.{Command, good}
 use Rattle.writers.specs.declared.Wrote.{Wrote}
-use Rattle.frames.specs.Bytes.{size, frame}
+use Rattle.frames.specs.Bytes.{frameSize, frame}
 
 -- 4, then 16
 abbrev pub writeAnswer : Command → List ℕ → ℕ
-writeAnswer c out = firstOf (4 when not (good c) ∷ 16 when ltb (length out) (size c) ∷ [])
+writeAnswer c out = firstOf (4 when not (good c) ∷ 16 when ltb (length out) (frameSize c) ∷ [])
 
 unfoldable pub wrote : Command → List ℕ → Wrote
 wrote c out =
-    let a : ℕ = writeAnswer c out in record { answer = a; used = cond (eqb a 0) (size c) 0 }
+    let a : ℕ = writeAnswer c out in record { answer = a; used = cond (eqb a 0) (frameSize c) 0 }
 
 -- a success writes only the bytes it reports, a refusal leaves the output untouched
 unfoldable pub written : Command → List ℕ → List ℕ
-written c out = cond (eqb (writeAnswer c out) 0) (frame c ++ drop (size c) out) out
+written c out = cond (eqb (writeAnswer c out) 0) (frame c ++ drop (frameSize c) out) out

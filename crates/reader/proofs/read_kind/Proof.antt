@@ -1,7 +1,7 @@
 use mathlib.Core.Path.{sym, ap₂, _∙_}
 use native.Mathlib.Omega.{arith}
 use borrow.Author.Needs.{needs}
-use Rattle.frames.specs.Reader.{judge}
+use Rattle.frames.specs.Reader.{testedValues}
 use Rattle.commands.proofs.Fits.{count-fits}
 use Rattle.frames.proofs.Shaped.{shaped, has-first}
 use Rattle.frames.proofs.Idents.{last-ident, init-here, update-here, stop-here, single-here, check-3, check-5}
@@ -29,7 +29,7 @@ returns c =
     let start = c .before .before .before .before .before in
     let a = start .args in
     let k = sym (c .before .before .ident-of .ensures) ∙ c .before .if1 .taken in
-    c .read-init .ensures ∙ sym (ap₂ judge (check-3 (a .s .now) k) (init-here (a .s .now) (a .count) k))
+    c .read-init .ensures ∙ sym (ap₂ testedValues (check-3 (a .s .now) k) (init-here (a .s .now) (a .count) k))
 
 read-update-requires : tie.Need-read-update-requires
 read-update-requires c κs =
@@ -44,7 +44,7 @@ returns-2 c =
     let start = c .before .before .before .before .before .before in
     let a = start .args in
     let k = sym (c .before .before .before .ident-of .ensures) ∙ c .before .if2 .taken in
-    c .read-update .ensures ∙ sym (ap₂ judge (check-5 (a .s .now) (omega arith)) (update-here (a .s .now) (a .count) k))
+    c .read-update .ensures ∙ sym (ap₂ testedValues (check-5 (a .s .now) (omega arith)) (update-here (a .s .now) (a .count) k))
 
 read-stop-requires : tie.Need-read-stop-requires
 read-stop-requires c κs = search needs
@@ -54,7 +54,7 @@ returns-3 c =
     let start = c .before .before .before .before .before .before .before in
     let a = start .args in
     let k = sym (c .before .before .before .before .ident-of .ensures) ∙ c .before .if3 .taken in
-    c .read-stop .ensures ∙ sym (ap₂ judge (check-5 (a .s .now) (omega arith)) (stop-here (a .s .now) (a .count) k))
+    c .read-stop .ensures ∙ sym (ap₂ testedValues (check-5 (a .s .now) (omega arith)) (stop-here (a .s .now) (a .count) k))
 
 read-single-requires : tie.Need-read-single-requires
 read-single-requires c κs =
@@ -70,7 +70,7 @@ returns-4 c =
     let a = start .args in
     let i = c .before .before .before .before .ident-of .ensures in
     let k = last-ident (a .s .now) (λ z. c .before .before .before .if1 .left (i ∙ z)) (λ z. c .before .before .if2 .left (i ∙ z)) (λ z. c .before .if3 .left (i ∙ z)) in
-    c .read-single .ensures ∙ sym (ap₂ judge (check-5 (a .s .now) (omega arith)) (single-here (a .s .now) (a .count) k))
+    c .read-single .ensures ∙ sym (ap₂ testedValues (check-5 (a .s .now) (omega arith)) (single-here (a .s .now) (a .count) k))
 
 pub read-kind-spec : {M : Type 1} → statement M
 read-kind-spec =

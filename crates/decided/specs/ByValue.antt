@@ -11,5 +11,5 @@ abbrev pub dropFrame : ℕ → Core → ℕ → ℕ → Result
 dropFrame clock m k answer = decided clock k answer (dropped clock m answer)
 
 -- what a decided command gives back, by value
-unfoldable pub given : Result → Decided
-given r = record { said = saidOf r; records = recordsOf (r .records); core = r .state .core }
+unfoldable pub byValue : Result → Decided
+byValue r = record { said = saidOf r; records = recordsOf (r .records); core = r .state .core }
