@@ -44,11 +44,12 @@ QuietAtRest =
     (p : Profile) (s : State) → isRunning (s .core) ≡ false
     → (step p s tick .records ≡ []) × (isRunning (step p s tick .state .core) ≡ false)
 
--- a tripped box stays tripped under ticks alone, however many, those at the clock's end among them, and releases nothing
+-- none of some calls releases anything
 abbrev pub Silent : List Outcome → Type 0
 Silent [] = Unit
 Silent (o ∷ os) = (o .records ≡ []) × Silent os
 
+-- a tripped box stays tripped under ticks alone, however many, those at the clock's end among them, and they release nothing
 pub record StaysSilent (p : Profile) (s : State) (n : ℕ) : Type 0 where
   pub still-tripped : isTripped (after p s (replicate n tick) .core) ≡ true
   pub silent : Silent (run p s (replicate n tick))

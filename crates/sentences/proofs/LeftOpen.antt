@@ -122,6 +122,6 @@ still-finishes p s g u not-yet t =
     let k = tick-trips p s not-yet t in
     record {
       kept-open = k .partial;
-      unfinished = o .0;
+      some-left = o .0;
       finishes = λ cs l. finishes-from p cs (step p s tick .state) (toCome s) t (rw (k .partial) (o .1)) l;
     }

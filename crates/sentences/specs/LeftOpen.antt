@@ -60,7 +60,7 @@ FinishesTripped =
 -- a tick that trips the box leaves the Update open, with its bytes and its kept length, and the box finishes it
 pub record LeftOpen (p : Profile) (s : State) : Type 0 where
   pub kept-open : step p s tick .state .partial ≡ s .partial
-  pub unfinished : 0 < toCome s
+  pub some-left : 0 < toCome s
   pub finishes : (cs : List Call) → LowOrTicks cs → Finishes p (step p s tick .state) (toCome s) cs
 
 abbrev pub StillFinishes : Type 0
