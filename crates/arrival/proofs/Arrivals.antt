@@ -15,7 +15,7 @@ use Rattle.model.specs.Channels.{channels}
 use Rattle.model.specs.State.{Partial, byState, isRunning}
 use Rattle.model.specs.Effects.{Done}
 use Rattle.model.specs.Good.{goodPartial}
-use Rattle.model.specs.Arrival.{Arrival.stray, Arrival.alone, Arrival.growing, Arrival.whole, lengthened, openedUpdate, opened, followed, decided, judged, taken}
+use Rattle.model.specs.Arrival.{Arrival.alone, Arrival.growing, Arrival.whole, lengthened, openedUpdate, opened, followed, decided, judged, taken}
 use Rattle.record.specs.declared.Box.{Box}
 use Rattle.partial.specs.declared.PartialFrame.{PartialFrame}
 use Rattle.partial.specs.Partial.{partialOf, frameOf}

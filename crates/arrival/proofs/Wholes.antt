@@ -8,7 +8,6 @@ use lib.Dec.{ltb, eqb}
 use lib.ListN.{length, getD, take, drop, length-append}
 use lib.Seq.{take-all}
 use borrow.Author.Tests.{ltb-false, eqb-true, ne-eqb, le-ltb, le-leb, lt-leb}
-use Rattle.bits.specs.High.{high}
 use Rattle.commands.specs.Ranges.{within, goodCount}
 use Rattle.commands.proofs.Tests.{both}
 use Rattle.frames.specs.Layout.{identIn, sizeFor}

@@ -38,7 +38,8 @@ use Rattle.calls.specs.Calls.{stepFiled, callOf}
 use Rattle.calls.specs.Readout.{readoutOf, readoutBytes}
 use Rattle.demands.specs.FreshBox.{trace}
 use Rattle.demands.specs.History.{Turn, Turn.call, Turn.readout, Kept, next, last, Proper, calls, Spoken, spokenBy, spoken}
-use Rattle.demands.specs.Demand2.{documented, NoneRefused, Copied, copied, readTo}
+use Rattle.demands.specs.Copied.{Copied, copied, readTo}
+use Rattle.demands.specs.Demand2.{documented, NoneRefused}
 use Rattle.demands.proofs.Answers.{way, never}
 use Rattle.demands.proofs.Filed.{ready-placed, filed-ready, filed-capacity, filed-tail}
 

@@ -11,7 +11,8 @@ use Rattle.model.specs.Machine.{Call, Call.byte, Call.tick, step, after}
 use Rattle.model.proofs.Tests.{either-way}
 use Rattle.calls.specs.Making.{makeAnswer, makeOf}
 use Rattle.demands.specs.History.{Request, Request.act, acts, Spoken}
-use Rattle.demands.specs.Demand2.{tailOf, Copied, copied}
+use Rattle.demands.specs.Copied.{Copied, copied}
+use Rattle.demands.specs.Demand2.{tailOf}
 use Rattle.demands.specs.Program.{Program, Meets}
 use Rattle.demands.specs.Idle.{RefusesAll, RepeatsOne, NeverPulses, NeverRecords, DoesNothing, AllowsPulse, FeignsTheRest, ClaimsBytes, IdleExcluded}
 use Rattle.demands.proofs.Demand2.{was-made, fresh-grown}

@@ -7,7 +7,8 @@ use Rattle.model.specs.State.{fresh}
 use Rattle.model.specs.Machine.{Call, outcome, step, after}
 use Rattle.calls.specs.Making.{makeAnswer}
 use Rattle.demands.specs.History.{Request, acts}
-use Rattle.demands.specs.Demand2.{documented, tailOf, copied}
+use Rattle.demands.specs.Copied.{copied}
+use Rattle.demands.specs.Demand2.{documented, tailOf}
 use Rattle.demands.specs.Program.{Program, Meets}
 
 module _ {x : Program} (m : Meets x) (p : Profile) (capacity : ℕ) (made : makeAnswer p capacity ≡ 0) where

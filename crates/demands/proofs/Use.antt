@@ -21,7 +21,8 @@ use Rattle.calls.specs.Readout.{readoutOf, readoutBytes}
 use Rattle.calls.proofs.Zero.{zero-not-good}
 use Rattle.demands.specs.History.{Turn, Turn.call, Turn.readout, Kept, next, last, LentTo, History, Request, acts, spokenBy}
 use Rattle.demands.specs.OneBuffer.{Bench, benchAfter, turnsOf, benchOf}
-use Rattle.demands.specs.Demand2.{documented, tailOf, copied}
+use Rattle.demands.specs.Copied.{copied}
+use Rattle.demands.specs.Demand2.{documented, tailOf}
 use Rattle.demands.specs.Use.{Used, reached, Use, saidNext, readNext, programOf, LibraryMeets}
 use Rattle.demands.proofs.Histories.{gives, says}
 use Rattle.demands.proofs.Demand2.{whole, demand2}

@@ -1,24 +1,22 @@
 -- Demand 2 on a box: every answer, pulse and trace byte is the one that document 01's machine gives for the calls so far. Its sentence on
 -- frames is in `RoundTrips`.
 use Prim.Native.Nat.{ℕ}
-use mathlib.Core.Bool.{false, cond}
+use mathlib.Core.Bool.{false}
 use mathlib.Core.Path.{_≡_}
-use mathlib.Core.List.{List, [], _∷_, _++_, map}
-use lib.Dec.{ltb}
-use lib.ListN.{length, drop}
+use mathlib.Core.List.{List, [], _∷_, map}
+use lib.ListN.{length}
 use Rattle.commands.specs.Ranges.{within}
 use Rattle.trace.specs.declared.Part.{Part}
-use Rattle.trace.specs.declared.Readout.{Readout}
 use Rattle.trace.specs.Tail.{tailBytes}
 use Rattle.trace.specs.Ring.{heldIn}
 use Rattle.model.specs.declared.Profile.{Profile}
 use Rattle.model.specs.State.{fresh}
 use Rattle.model.specs.Machine.{Call, Outcome, run, after}
-use Rattle.record.specs.declared.Box.{Box}
 use Rattle.record.specs.Box.{stateOf}
 use Rattle.outcome.specs.Claims.{pulsesIn}
 use Rattle.calls.specs.Calls.{callOf}
-use Rattle.calls.specs.Readout.{readoutOf, readoutBytes}
+use Rattle.calls.specs.Readout.{readoutOf}
+use Rattle.demands.specs.Copied.{copied, readTo}
 use Rattle.demands.specs.FreshBox.{trace}
 use Rattle.demands.specs.History.{Turn, Turn.call, Turn.readout, Kept, next, last, LentTo, History, atFirst, calls, Spoken, spoken}
 
@@ -38,22 +36,6 @@ answerOf h (readout out buf at) = readoutOf (h .box) buf at (length out) .answer
 unfoldable pub NoneRefused : Kept → List Turn → Type 0
 NoneRefused h [] = Unit
 NoneRefused h (t ∷ ts) = (within 12 (answerOf h t) 14 ≡ false) × NoneRefused (next h t) ts
-
--- what a readout reports, and what it leaves in the output
-pub record Copied : Type 0 where
-  pub report : Readout
-  pub output : List ℕ
-
--- the tail's bytes at the front of the output, or 16 where they have no room
-abbrev pub copied : List ℕ → List ℕ → Copied
-copied tail out =
-    cond (ltb (length out) (length tail))
-    (record { report = record { answer = 16; used = 0 }; output = out })
-    (record { report = record { answer = 0; used = length tail }; output = tail ++ drop (length tail) out })
-
--- as the library reads out
-abbrev pub readTo : Box → List ℕ → Part → List ℕ → Copied
-readTo b buf at out = record { report = readoutOf b buf at (length out); output = readoutBytes b buf at out }
 
 pub record Demand2 {p : Profile} (h : History p) : Type 0 where
   -- every answer, reply and pulse is the document machine's for the calls so far

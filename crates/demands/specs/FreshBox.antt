@@ -5,14 +5,12 @@ use lib.ListN.{replicate}
 use Rattle.commands.specs.Commands.{Command}
 use Rattle.frames.specs.Bytes.{frame}
 use Rattle.trace.specs.declared.Part.{Part}
-use Rattle.trace.specs.declared.Readout.{Readout}
 use Rattle.trace.specs.declared.Record.{Record}
-use Rattle.trace.specs.declared.Record.the-variants.{Answer, Pulse, Trip}
 use Rattle.model.specs.declared.Profile.{Profile}
 use Rattle.model.specs.State.{fresh}
 use Rattle.model.specs.Machine.{Call, Call.byte, Call.tick, Outcome, run}
 use Rattle.calls.specs.Making.{makeOf}
-use Rattle.calls.specs.Readout.{readoutOf, readoutBytes}
+use Rattle.demands.specs.Copied.{Copied, readTo}
 use Rattle.demands.specs.OneBuffer.{Bench, benchAfter}
 
 -- ---- calls: bytes, the frames of commands, and ticks
@@ -47,21 +45,10 @@ abbrev pub trace : List Outcome → List Record
 trace [] = []
 trace (o ∷ os) = o .records ++ trace os
 
--- a record's kind, clock and values
-abbrev pub recordNumbers : List Record → List ℕ
-recordNumbers [] = []
-recordNumbers (Answer clock ident answer ∷ rs) = 1 ∷ clock ∷ ident ∷ answer ∷ recordNumbers rs
-recordNumbers (Pulse clock channel width current ∷ rs) = 2 ∷ clock ∷ channel ∷ width ∷ current ∷ recordNumbers rs
-recordNumbers (Trip clock cause ∷ rs) = 3 ∷ clock ∷ cause ∷ recordNumbers rs
-
 -- ---- its ring, in a buffer of 41 bytes the part from place 5 on, read out behind the calls to an output of 30
 
-pub record CopiedOut : Type 0 where
-  pub report : Readout
-  pub output : List ℕ
-
-abbrev pub copiedOut : ℕ → List Call → CopiedOut
+abbrev pub copiedOut : ℕ → List Call → Copied
 copiedOut capacity cs =
     let at : Part = record { offset = 5; size = capacity } in
     let k : Bench = benchAfter at (record { box = makeOf loosest capacity .made; buf = replicate 41 0xAA }) cs in
-    record { report = readoutOf (k .box) (k .buf) at 30; output = readoutBytes (k .box) (k .buf) at (replicate 30 0xBB) }
+    readTo (k .box) (k .buf) at (replicate 30 0xBB)

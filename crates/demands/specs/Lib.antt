@@ -2,6 +2,7 @@ pub mod DontCare
 pub mod RoundTrips
 pub mod History
 pub mod OneBuffer
+pub mod Copied
 pub mod FreshBox
 pub mod Cases
 pub mod Demand1

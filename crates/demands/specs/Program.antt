@@ -10,7 +10,8 @@ use Rattle.model.specs.State.{fresh}
 use Rattle.model.specs.Machine.{Call, outcome, step, after}
 use Rattle.calls.specs.Making.{makeAnswer}
 use Rattle.demands.specs.History.{Request, acts, Spoken}
-use Rattle.demands.specs.Demand2.{documented, tailOf, Copied, copied}
+use Rattle.demands.specs.Copied.{Copied, copied}
+use Rattle.demands.specs.Demand2.{documented, tailOf}
 
 -- a program is any function from a profile, a capacity and the calls so far, readouts among them, to what is answered where a box is
 -- made, said to a byte or a tick, and read out to an output

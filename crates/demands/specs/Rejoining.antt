@@ -1,17 +1,17 @@
 -- That demand 3 is not empty: a strict and a lax box, and calls by which the strict one trips and later rejoins, with pulses on both sides.
-use Prim.Native.Nat.{ℕ}
 use mathlib.Core.Bool.{Bool, true, false}
 use mathlib.Core.Path.{_≡_}
 use mathlib.Core.List.{List, [], _∷_, _++_}
 use lib.ListN.{replicate}
 use Rattle.frames.specs.Bytes.{frame}
+use Rattle.trace.specs.declared.Record.{Record}
 use Rattle.trace.specs.declared.Record.the-variants.{Pulse}
 use Rattle.model.specs.declared.Profile.{Profile}
 use Rattle.model.specs.Profiles.{NowhereLooser}
 use Rattle.model.specs.State.{isTripped, fresh}
 use Rattle.model.specs.Machine.{Call, run, after}
 use Rattle.outcome.specs.Claims.{pulsesIn}
-use Rattle.demands.specs.FreshBox.{sent, ticks, loosest, trace, recordNumbers}
+use Rattle.demands.specs.FreshBox.{sent, ticks, loosest, trace}
 use Rattle.demands.specs.Cases.{setTo, updateOf, init5, update6}
 
 -- at most 35 mA on each channel
@@ -30,8 +30,8 @@ tooStrong = sent update6 ++ ticks 105
 abbrev pub allThree : List Call
 allThree = allowed ++ tooStrong ++ allowed
 
-abbrev pub pulses : Profile → List Call → List ℕ
-pulses p cs = recordNumbers (pulsesIn (trace (run p fresh cs)))
+abbrev pub pulses : Profile → List Call → List Record
+pulses p cs = pulsesIn (trace (run p fresh cs))
 
 abbrev pub isDown : Profile → List Call → Bool
 isDown p cs = isTripped (after p fresh cs .core)
@@ -41,9 +41,8 @@ pub record Rejoins : Type 0 where
   pub trips : isDown strict (allowed ++ tooStrong) ≡ true
   pub rejoins : isDown strict allThree ≡ false
   pub lax-runs : isDown loosest (allowed ++ tooStrong) ≡ false
-  pub strict-pulses : pulses strict allThree ≡ recordNumbers (Pulse 100 1 200 30 ∷ Pulse 115 3 300 30 ∷ Pulse 320 1 200 30 ∷ Pulse 335 3 300 30 ∷ [])
+  pub strict-pulses : pulses strict allThree ≡ Pulse 100 1 200 30 ∷ Pulse 115 3 300 30 ∷ Pulse 320 1 200 30 ∷ Pulse 335 3 300 30 ∷ []
   pub lax-pulses : pulses loosest allThree
-      ≡ recordNumbers
-      (Pulse 100 1 200 30 ∷ Pulse 115 3 300 30
+      ≡ Pulse 100 1 200 30 ∷ Pulse 115 3 300 30
       ∷ Pulse 145 3 300 30 ∷ Pulse 200 1 200 40 ∷ Pulse 215 3 300 30
-      ∷ Pulse 320 1 200 30 ∷ Pulse 335 3 300 30 ∷ [])
+      ∷ Pulse 320 1 200 30 ∷ Pulse 335 3 300 30 ∷ []

@@ -8,7 +8,7 @@ use Rattle.model.specs.Machine.{Call}
 use Rattle.calls.specs.Making.{makeAnswer, makeOf}
 use Rattle.calls.specs.Calls.{callOf}
 use Rattle.demands.specs.History.{Turn, Kept, last, LentTo, Proper, justMade, Request, requests, Spoken, spokenBy}
-use Rattle.demands.specs.Demand2.{Copied, readTo}
+use Rattle.demands.specs.Copied.{Copied, readTo}
 use Rattle.demands.specs.Program.{Program, Meets}
 
 -- what a user has done with a box when it has got these requests: turns with them, whatever the part held at first; and the buffer and part

@@ -10,7 +10,6 @@ use borrow.Author.Tests.{ltb-true, ltb-false, le-leb, lt-leb, ne-eqb}
 use Rattle.commands.specs.Ranges.{within}
 use Rattle.trace.specs.declared.Record.{Record}
 use Rattle.model.specs.declared.Run.{Run}
-use Rattle.model.specs.Effects.{pulse}
 use Rattle.model.specs.Claims.{pulseAt}
 use Rattle.model.proofs.Tests.{either-way}
 use Rattle.model.proofs.Few.{Behind, Behind.nothing, Behind.a-pulse, Behind.a-trip, Releases, Releases.bare, Releases.behind, Releases.due}
