@@ -5,17 +5,13 @@ use mathlib.Core.List.{[], _∷_}
 use lib.Dec.{eqb}
 use lib.ListN.{replicate}
 use Rattle.commands.specs.Answers.{_when_, firstOf}
-use Rattle.trace.specs.declared.Ring.{Ring}
-use Rattle.trace.specs.Ring.{goodCapacity}
+use Rattle.trace.specs.Ring.{emptyRing, goodCapacity}
 use Rattle.model.specs.declared.Profile.{Profile}
 use Rattle.model.specs.Profiles.{goodProfile}
 use Rattle.model.specs.State.{fresh}
 use Rattle.record.specs.declared.Box.{Box}
 use Rattle.record.specs.Box.{boxOf}
 use Rattle.calls.specs.declared.Made.{Made}
-
-abbrev pub emptyRing : ℕ → Ring
-emptyRing capacity = record { capacity = capacity; start = 0; used = 0 }
 
 -- a fresh box: its state is the machine's, its ring empty
 abbrev pub freshBox : Profile → ℕ → Box

@@ -11,7 +11,7 @@ use Rattle.commands.proofs.Tests.{both, passed}
 use Rattle.trace.specs.Rows.{joined, splitsAfter}
 use Rattle.trace.specs.Tail.{tailWithin}
 use Rattle.trace.specs.Round.{content}
-use Rattle.trace.specs.Ring.{goodCapacity}
+use Rattle.trace.specs.Ring.{emptyRing, goodCapacity}
 use Rattle.model.specs.declared.Profile.{Profile}
 use Rattle.model.specs.Profiles.{goodProfile}
 use Rattle.model.specs.State.{fresh}
@@ -19,7 +19,7 @@ use Rattle.model.specs.Machine.{after}
 use Rattle.model.proofs.Theorems.{always-good}
 use Rattle.record.specs.Box.{stateOf, boxOf}
 use Rattle.record.proofs.Carries.{carries}
-use Rattle.calls.specs.Making.{emptyRing, freshBox, makeOf}
+use Rattle.calls.specs.Making.{freshBox, makeOf}
 use Rattle.demands.specs.History.{Kept, History, atFirst, calls}
 use Rattle.demands.specs.Demand2.{Demand2Holds}
 use Rattle.demands.proofs.Histories.{Grown, Holds, from, reads}

@@ -1,5 +1,5 @@
 // Document 01's machine, "Profile" and "The machine": its numbers. Its rules stand in specs/ as definitions, and what follows from
-// them in proofs/. No function stands here.
+// them in proofs/. No function stands here. The fields' order and width leave no byte between them, as the structs cross the boundary.
 use commands::Init;
 use commands::Setting;
 

@@ -13,7 +13,7 @@ use Rattle.trace.specs.declared.Part.{Part}
 use Rattle.trace.specs.Records.{sizeOf}
 use Rattle.trace.specs.Rows.{splitsAfter}
 use Rattle.trace.specs.Round.{fromStart, content}
-use Rattle.trace.specs.Ring.{goodRing, goodPart, readyAnswer, readoutAnswer, readOut}
+use Rattle.trace.specs.Ring.{emptyRing, goodRing, goodPart, readyAnswer, readoutAnswer, readOut}
 use Rattle.model.specs.declared.Profile.{Profile}
 use Rattle.model.specs.Channels.{inSet, many}
 use Rattle.model.specs.Timing.{t1, t2, keepsModules, keepsMain, largestMode}
@@ -29,7 +29,7 @@ use Rattle.partial.specs.Partial.{frameOf, zeros, unusedZero}
 use Rattle.record.specs.declared.Box.{Box}
 use Rattle.record.specs.Box.{stateOf, boxOf, goodBox}
 use Rattle.said.specs.Said.{saidOf}
-use Rattle.calls.specs.Making.{emptyRing, zeroProfile, zeroBox, makeOf}
+use Rattle.calls.specs.Making.{zeroProfile, zeroBox, makeOf}
 use Rattle.calls.specs.Calls.{stepFiled, callOf}
 use Rattle.calls.specs.Readout.{readoutOf}
 use Rattle.demands.specs.FreshBox.{sent, loosest}

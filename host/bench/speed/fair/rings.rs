@@ -7,6 +7,9 @@ use crate::MOST;
 use rand::rngs::SmallRng;
 use rand::Rng;
 
+/// The largest number that the library's ring has room for.
+const LARGEST: usize = u32::MAX as usize;
+
 pub fn check() {
     const CASES: u64 = 10_000;
     seeded(0..CASES, |rng| {
@@ -44,13 +47,13 @@ fn good(rng: &mut SmallRng) -> Lent {
 fn spoilt(rng: &mut SmallRng, mut lent: Lent) -> Lent {
     let Lent { buffer, at, ring } = &mut lent;
     match rng.gen_range(0..8) {
-        0 => ring.capacity = odd_number(rng, ring.capacity),
-        1 => ring.start = odd_number(rng, ring.capacity),
-        2 => ring.used = odd_number(rng, ring.capacity),
-        3 => at.size = odd_number(rng, at.size),
-        4 => at.offset = odd_number(rng, buffer.len() - at.size),
+        0 => ring.capacity = odd_number(rng, ring.capacity, LARGEST),
+        1 => ring.start = odd_number(rng, ring.capacity, LARGEST),
+        2 => ring.used = odd_number(rng, ring.capacity, LARGEST),
+        3 => at.size = odd_number(rng, at.size, usize::MAX),
+        4 => at.offset = odd_number(rng, buffer.len() - at.size, usize::MAX),
         5 => {
-            let size = odd_number(rng, 16);
+            let size = odd_number(rng, 16, LARGEST);
             (ring.capacity, ring.start, ring.used, at.size) = (size, 0, 0, size);
         }
         6 => ring.used = rng.gen_range(0..=ring.capacity),
@@ -60,11 +63,11 @@ fn spoilt(rng: &mut SmallRng, mut lent: Lent) -> Lent {
 }
 
 /// A number about this one, or one of the extremes.
-fn odd_number(rng: &mut SmallRng, about: usize) -> usize {
+fn odd_number(rng: &mut SmallRng, about: usize, largest: usize) -> usize {
     match rng.gen_range(0..6) {
         0 => 0,
         1 => MOST + 1,
-        2 => usize::MAX - rng.gen_range(0..=about),
+        2 => largest - rng.gen_range(0..=about),
         _ => about.saturating_add(rng.gen_range(0..=4)).saturating_sub(2),
     }
 }
@@ -76,7 +79,7 @@ fn compare(rng: &mut SmallRng, lent: &Lent) {
     let [library, plain] = [Library::ready, Plain::ready].map(|ready| ready(buffer, *at, ring));
     same("the split test", &told, &library, &plain);
 
-    let room = odd_number(rng, ring.used).min(MOST + 2);
+    let room = odd_number(rng, ring.used, LARGEST).min(MOST + 2);
     let mut outs = [vec![0xA5; room], vec![0xA5; room]];
     let library = Library::read_out(buffer, *at, ring, &mut outs[0]);
     let plain = Plain::read_out(buffer, *at, ring, &mut outs[1]);
