@@ -67,7 +67,7 @@ fn init(rng: &mut SmallRng, unit: &BoxRecord) -> Init {
     // Room in t1 for one pulse of each channel, or for doublets or triplets.
     let pulses = any(rng, &[1, 1, 2, 3]);
     let least = pulses * (group_time + 3) + 1;
-    let allowed = u32::from(unit.profile.shortest).saturating_sub(6) / 5;
+    let allowed = unit.profile.shortest.saturating_sub(6) / 5;
     let main_time = match rng.gen_range(0..24) {
         0 => rng.gen_range(0..=2_047),
         1 => least - 1,

@@ -76,7 +76,7 @@ fn run_good(record: &BoxRecord) -> bool {
         && (4..=2045).contains(&list.main_time)
         && t2(list) >= 15 * a.len().max(b.len()) as u32
         && t1(list) >= t2(list) + 15
-        && t1(list) >= record.profile.shortest.into()
+        && t1(list) >= record.profile.shortest
         && (0..8).all(|index| setting_good(record, index, &run.settings[index]))
         && (0..8).all(|index| setting_good(record, index, &run.waiting[index]))
         && (run.waits == 1 || run.waits == 0 && run.waiting == [Setting::default(); 8])
