@@ -3,7 +3,7 @@
 use crate::against::Against;
 use crate::course::Courses;
 use crate::failure::{Failure, Out};
-use crate::files::Planned;
+use crate::output::Planned;
 use crate::session::Session;
 use crate::{hex, story};
 use clap::Args;

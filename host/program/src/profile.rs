@@ -1,7 +1,7 @@
 //! Profiles in TOML files.
 
 use crate::failure::BadInput;
-use crate::files;
+use crate::input;
 use serde::de::{DeserializeOwned, IgnoredAny, MapAccess, Visitor};
 use serde::{Deserialize, Deserializer};
 use std::fmt;
@@ -52,7 +52,7 @@ impl<'de> Visitor<'de> for KeysVisitor {
 /// The loosest profile if no file is named.
 pub fn of_file(file: Option<&Path>) -> Result<Profile, BadInput> {
     match file {
-        Some(file) => Reader { file, text: &files::text(file)? }.profile(),
+        Some(file) => Reader { file, text: &input::text(file)? }.profile(),
         None => Ok(Profile::LOOSEST),
     }
 }

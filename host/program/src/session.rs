@@ -3,7 +3,7 @@
 use crate::failure::BadInput;
 use crate::hex::{self, NotBytes};
 use crate::unit::Call;
-use crate::{files, number};
+use crate::{input, number};
 use std::path::Path;
 use thiserror::Error;
 
@@ -32,14 +32,14 @@ enum NotLine {
 
 impl Session {
     pub fn of_file(file: &Path) -> Result<Session, BadInput> {
-        Session::of_text(&files::text(file)?, file)
+        Session::of_text(&input::text(file)?, file)
     }
 
     /// The session in a text, of which errors say that it is the file's.
     pub fn of_text(text: &str, file: &Path) -> Result<Session, BadInput> {
         let mut session = Session::default();
         let mut ended = false;
-        for (line, words) in files::lines(text) {
+        for (line, words) in input::lines(text) {
             if let [clock, rest @ ..] = &words[..] {
                 ended = session
                     .take(clock, rest, ended)

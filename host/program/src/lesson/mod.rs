@@ -8,7 +8,7 @@ mod wrong;
 
 use crate::course::Courses;
 use crate::failure::{Failure, Out};
-use crate::files::Planned;
+use crate::output::Planned;
 use clap::{Args, Subcommand};
 use std::path::PathBuf;
 

@@ -5,7 +5,7 @@ mod sheet;
 use crate::against::Against;
 use crate::course::Courses;
 use crate::failure::{BadInput, Failure, Out};
-use crate::files::Planned;
+use crate::output::Planned;
 use crate::session::Session;
 use crate::unit::Unit;
 use crate::{hex, number, profile, story};

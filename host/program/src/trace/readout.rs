@@ -2,7 +2,7 @@
 
 use super::records::{self, Record};
 use crate::failure::BadInput;
-use crate::{files, hex};
+use crate::{hex, input};
 use std::ffi::OsString;
 use std::path::{Path, PathBuf};
 
@@ -41,7 +41,7 @@ impl Readout {
     /// Text in which a # begins a comment.
     fn of_file(file: &Path) -> Result<Readout, BadInput> {
         let (mut bytes, mut lines) = (Vec::new(), Vec::new());
-        for (line, words) in files::lines(&files::text(file)?) {
+        for (line, words) in input::lines(&input::text(file)?) {
             for word in words {
                 let more = hex::parsed(word).map_err(|why| BadInput::line(file, line, why))?;
                 bytes.extend(more.0);
