@@ -9,7 +9,11 @@ macro_rules! answers {
         #[derive(Clone, Copy, Debug, Error, PartialEq, Eq)]
         #[repr(u8)]
         pub enum Answer {
-            $(#[error($words)] $name = $number,)*
+            $(
+                #[doc = concat!(stringify!($number), ": ", $words, ".")]
+                #[error($words)]
+                $name = $number,
+            )*
         }
 
         impl Answer {
@@ -49,6 +53,7 @@ answers! {
 }
 
 impl Answer {
+    /// Document 01's number.
     pub fn number(self) -> u8 {
         self as u8
     }

@@ -1,27 +1,42 @@
 //! Frames as a host program reads and writes them.
 
 use crate::raw::{Init, Setting, Single, Wrote};
-use crate::{calls, Answer};
+use crate::{calls, Answer, NotRead, NotWritten};
 
 /// A command (source 003, section 5.2). An Update has a setting for each listed channel, lowest
 /// first, and zeros behind them.
 #[derive(Clone, Copy, Debug, PartialEq, Eq)]
 pub enum Command {
+    /// Ident 0: a list of channels and its times.
     Init(Init),
+    /// Ident 1: the settings of the listed channels.
     Update([Setting; 8]),
+    /// Ident 2: the end of the list.
     Stop,
+    /// Ident 3: one pulse on one channel.
     Single(Single),
 }
 
 /// A command as it was read, and how many bytes its frame has.
 #[derive(Clone, Copy, Debug, PartialEq, Eq)]
 pub struct Frame {
+    /// What was read.
     pub command: Command,
+    /// How many bytes its frame has.
     pub used: usize,
 }
 
 /// Reads the frame at the start of `bytes`, for a list of `count` channels.
-pub fn read(bytes: &[u8], count: usize) -> Result<Frame, Answer> {
+///
+/// ```
+/// use yarrowbell::{read, Command, NotRead, Single};
+///
+/// let frame = read(&[0xE2, 0x21, 0x48, 0x78], 1)?;
+/// assert_eq!(frame.command, Command::Single(Single { channel: 2, width: 200, current: 120 }));
+/// assert_eq!(read(&[0xE3, 0x21, 0x48, 0x78], 1), Err(NotRead::WrongCheck));
+/// # Ok::<(), NotRead>(())
+/// ```
+pub fn read(bytes: &[u8], count: usize) -> Result<Frame, NotRead> {
     // Any export refuses an empty slice or a low first byte alike.
     let ident = bytes.first().map_or(0, |first| first >> 5 & 3);
     let (answer, command, used) = match ident {
@@ -42,25 +57,29 @@ pub fn read(bytes: &[u8], count: usize) -> Result<Frame, Answer> {
             (read.answer, Command::Single(read.single), read.used)
         }
     };
-    match Answer::known(answer) {
-        Answer::Done => Ok(Frame { command, used: used.into() }),
-        refusal => Err(refusal),
-    }
+    NotRead::known(answer).map_or(Ok(Frame { command, used: used.into() }), Err)
 }
 
 /// Writes the frame of a command to the start of `out`, and hands back how many bytes it has.
 /// `count` is the number of listed channels, which matters to an Update alone.
-pub fn write(command: &Command, count: usize, out: &mut [u8]) -> Result<usize, Answer> {
+///
+/// ```
+/// use yarrowbell::{write, Command, NotWritten, Single};
+///
+/// let single = Command::Single(Single { channel: 2, width: 200, current: 120 });
+/// let mut out = [0; 25];
+/// let used = write(&single, 1, &mut out)?;
+/// assert_eq!(out[..used], [0xE2, 0x21, 0x48, 0x78]);
+/// # Ok::<(), NotWritten>(())
+/// ```
+pub fn write(command: &Command, count: usize, out: &mut [u8]) -> Result<usize, NotWritten> {
     let Wrote { answer, used } = match command {
         Command::Init(init) => calls::write_init(*init, out),
         Command::Update(settings) => calls::write_update(*settings, count, out),
         Command::Stop => calls::write_stop(out),
         Command::Single(single) => calls::write_single(*single, out),
     };
-    match Answer::known(answer) {
-        Answer::Done => Ok(used.into()),
-        refusal => Err(refusal),
-    }
+    NotWritten::known(answer).map_or(Ok(used.into()), Err)
 }
 
 /// The reply byte to a decided command, of whose Ident only the low two bits count; 0 where the

@@ -1,28 +1,35 @@
 //! Safe calls to the proved guard unit of document 01: its box, its trace ring, and the reader and
 //! writer of ScienceMode frames.
 //!
-//! `Guard`, and `read`, `write` and `reply` for frames, are what a host program uses. `calls` has
-//! one function for each export of the library, for tests that drive them one by one.
+//! `Guard`, `records` for its trace, and `read`, `write` and `reply` for frames, are what a host
+//! program uses. `calls` has one function for each export of the library, for tests that drive them
+//! one by one.
 //!
 //! `cargo test` in this folder has the library proved and built first, and compares it with the
 //! codec, the ring and the machine in `independent/`, which share nothing with it.
 
 mod answer;
 pub mod calls;
+mod cause;
 mod frames;
 mod guard;
+mod not_done;
 mod profile;
 pub mod raw;
 mod record;
+mod records;
 mod refusal;
 mod state;
 mod told;
 
 pub use answer::Answer;
+pub use cause::Cause;
 pub use frames::{read, reply, write, Command, Frame};
 pub use guard::Guard;
+pub use not_done::{NotRead, NotWritten};
 pub use profile::{Looser, OutOfRange};
 pub use raw::{Init, Profile, Released, Setting, Single};
-pub use refusal::{About, Refusal};
+pub use records::{records, Body, NotRecords, Record};
+pub use refusal::Refusal;
 pub use state::State;
 pub use told::Told;

@@ -1,38 +1,57 @@
 //! The refusals of a box, in words.
 
 use crate::profile::OutOfRange;
-use crate::Answer;
+use crate::{Answer, Guard};
+use std::error::Error;
 use std::fmt;
-use thiserror::Error;
 
-/// An answer that refuses: the call changed nothing.
-#[derive(Clone, Debug, Error, PartialEq, Eq)]
-#[error("answer {}: {about}: {answer}", .answer.number())]
-pub struct Refusal {
-    pub answer: Answer,
-    pub about: About,
-}
-
-/// What was refused.
+/// What was refused, by one of the answers 11 to 17: the call changed nothing.
 #[derive(Clone, Debug, PartialEq, Eq)]
-pub enum About {
+pub enum Refusal {
+    /// A profile with this number.
     Profile(OutOfRange),
+    /// A ring of so many bytes.
     Capacity(usize),
-    Call { clock: u32 },
-    Output { room: usize, trace: usize },
+    /// A tick at the clock's end.
+    Tick,
+    /// A readout of `trace` bytes into an output of `room`.
+    Output {
+        /// How many bytes the output has.
+        room: usize,
+        /// How many the trace has.
+        trace: usize,
+    },
 }
 
-impl fmt::Display for About {
-    fn fmt(&self, out: &mut fmt::Formatter) -> fmt::Result {
+impl Refusal {
+    /// The answer by which it was refused.
+    pub fn answer(&self) -> Answer {
         match self {
-            About::Profile(number) => write!(out, "{number}"),
-            About::Capacity(capacity) => {
-                write!(out, "a ring of {capacity} bytes, where 16 to 4096 are good")
-            }
-            About::Call { clock } => write!(out, "a call at clock {clock}"),
-            About::Output { room, trace } => {
-                write!(out, "an output of {room} bytes for a trace of {trace}")
-            }
+            Refusal::Profile(_) => Answer::ProfileNotGood,
+            Refusal::Capacity(_) => Answer::RingOutside,
+            Refusal::Tick => Answer::ClockAtEnd,
+            Refusal::Output { .. } => Answer::OutputTooShort,
         }
     }
 }
+
+impl fmt::Display for Refusal {
+    fn fmt(&self, out: &mut fmt::Formatter) -> fmt::Result {
+        let answer = self.answer();
+        write!(out, "answer {}: ", answer.number())?;
+        match self {
+            Refusal::Profile(number) => write!(out, "{number}")?,
+            Refusal::Capacity(capacity) => {
+                let (least, most) = Guard::CAPACITIES.into_inner();
+                write!(out, "a ring of {capacity} bytes, where {least} to {most} are good")?;
+            }
+            Refusal::Tick => write!(out, "a tick at clock {}", u32::MAX)?,
+            Refusal::Output { room, trace } => {
+                write!(out, "an output of {room} bytes for a trace of {trace}")?;
+            }
+        }
+        write!(out, ": {answer}")
+    }
+}
+
+impl Error for Refusal {}

@@ -5,8 +5,11 @@ use std::fmt;
 /// A state of document 01, "The machine".
 #[derive(Clone, Copy, Debug, PartialEq, Eq)]
 pub enum State {
+    /// No list runs.
     Idle,
+    /// A list runs.
     Running,
+    /// A limit or the watchdog has stopped the box; Init and Stop lead out.
     Tripped,
 }
 

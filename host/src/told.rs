@@ -1,27 +1,36 @@
 //! What a box says to a call that it takes.
 
 use crate::raw::{Released, Said};
-use crate::Answer;
+use crate::{Answer, Cause, State};
 
 /// The answer to a byte or a tick, one of 0 to 10, and what came of it.
 #[derive(Clone, Copy, Debug, PartialEq, Eq)]
 pub struct Told {
+    /// Document 01's answer.
     pub answer: Answer,
     /// The byte to send back, if a command was decided.
     pub reply: Option<u8>,
     /// The pulse of module A and that of module B.
     pub pulses: [Option<Released>; 2],
+    /// Why the box tripped, if the call made it trip.
+    pub trip: Option<Cause>,
 }
 
 impl Told {
-    pub(crate) fn of_byte(answer: Answer, said: Said) -> Told {
-        let reply = answer.decides().then(|| said.reply.try_into().expect("a reply is one byte"));
-        Told { reply, ..Told::of_tick(answer, said) }
+    /// Of a call that took the box from one state to another.
+    pub(crate) fn of_call(answer: Answer, said: Said, [from, to]: [State; 2]) -> Told {
+        let trip = match answer {
+            Answer::OverLimit => Some(Cause::Limit),
+            _ => (from != to && to == State::Tripped).then_some(Cause::Watchdog),
+        };
+        let pulses = [said.a, said.b].map(|pulse| (pulse.channel != 0).then_some(pulse));
+        Told { answer, reply: None, pulses, trip }
     }
 
-    pub(crate) fn of_tick(answer: Answer, said: Said) -> Told {
-        let pulses = [said.a, said.b].map(|pulse| (pulse.channel != 0).then_some(pulse));
-        Told { answer, reply: None, pulses }
+    /// The same with the reply of a byte.
+    pub(crate) fn with_reply(self, reply: u16) -> Told {
+        let reply = || reply.try_into().expect("a reply is one byte");
+        Told { reply: self.answer.decides().then(reply), ..self }
     }
 
     /// The pulses released, in their order.

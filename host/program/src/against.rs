@@ -25,7 +25,8 @@ impl Against {
         self.only_first.extend(without(&first.told, &second.told));
         self.only_second.extend(without(&second.told, &first.told));
         self.pulses += second.told.released().count() as u64;
-        let differ = first.told != second.told;
+        let said = |told: &Told| (told.answer, told.reply, told.pulses);
+        let differ = said(&first.told) != said(&second.told);
         if differ {
             self.apart += 1;
             let (from, _) = self.between.unwrap_or((step.clock, step.clock));

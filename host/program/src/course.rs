@@ -2,9 +2,10 @@
 
 use crate::picture::{self, Panel};
 use crate::play::Step;
+use crate::reason::{self, Reason};
 use crate::unit::Call;
-use std::fmt;
-use yarrowbell::{Answer, Guard, State, Told};
+use yarrowbell::raw::BoxRecord;
+use yarrowbell::{Answer, Cause, Guard, State, Told};
 
 #[derive(Clone, Debug, PartialEq, Eq)]
 pub struct Event {
@@ -16,18 +17,27 @@ pub struct Event {
 
 #[derive(Clone, Debug, PartialEq, Eq)]
 pub enum What {
-    /// A command was decided, by the last of these bytes.
-    Decided {
-        bytes: Vec<u8>,
-        answer: Answer,
-        reply: u8,
-    },
+    Decided(Decided),
     /// A low byte while no frame was open.
     Stray(u8),
     /// An unfinished frame was dropped, for a high byte came.
     Dropped(Vec<u8>),
+    /// A frame is unfinished at the session's end.
+    Unfinished(Vec<u8>),
     Pulse(Pulse),
     Trip(Cause),
+}
+
+/// A command was decided, by the last of these bytes.
+#[derive(Clone, Debug, PartialEq, Eq)]
+pub struct Decided {
+    pub bytes: Vec<u8>,
+    /// The bits of the channels that were listed when it came.
+    pub listed: u8,
+    pub answer: Answer,
+    pub reply: u8,
+    /// Why it was refused, if it was.
+    pub reasons: Vec<Reason>,
 }
 
 /// The channel is 1 to 8; the width is in microseconds, the current in milliamps.
@@ -36,21 +46,6 @@ pub struct Pulse {
     pub channel: u8,
     pub width: u16,
     pub current: u16,
-}
-
-#[derive(Clone, Copy, Debug, PartialEq, Eq)]
-pub enum Cause {
-    Limit,
-    Watchdog,
-}
-
-impl fmt::Display for Cause {
-    fn fmt(&self, out: &mut fmt::Formatter) -> fmt::Result {
-        out.write_str(match self {
-            Cause::Limit => "limit",
-            Cause::Watchdog => "watchdog",
-        })
-    }
 }
 
 /// What some units did, each for itself.
@@ -76,38 +71,28 @@ impl Courses {
 }
 
 /// Turns what a unit says to its calls into events.
+#[derive(Default)]
 pub struct Watcher {
     frame: Vec<u8>,
-    state: State,
 }
 
 impl Watcher {
-    /// Of a fresh box.
-    pub fn new() -> Watcher {
-        Watcher { frame: Vec::new(), state: State::Idle }
-    }
-
-    /// What came of a call, after which the unit has this box.
-    pub fn see(&mut self, call: Call, told: &Told, left: &Guard) -> Vec<Event> {
+    /// What came of a call, before which the unit had one record and after which it has this box.
+    pub fn see(&mut self, call: Call, before: &BoxRecord, told: &Told, left: &Guard) -> Vec<Event> {
         let mut seen = Vec::new();
         if let Call::Byte(byte) = call {
-            self.see_byte(byte, told, &mut seen);
+            self.see_byte(byte, before, told, &mut seen);
         }
         seen.extend(told.released().map(|pulse| {
             let current = pulse.current.into();
             What::Pulse(Pulse { channel: pulse.channel, width: pulse.width, current })
         }));
-        let (was, is) = (self.state, left.state());
-        match (is, told.answer) {
-            (State::Tripped, Answer::OverLimit) => seen.push(What::Trip(Cause::Limit)),
-            (State::Tripped, _) if was != is => seen.push(What::Trip(Cause::Watchdog)),
-            _ => (),
-        }
-        self.state = is;
-        seen.into_iter().map(|what| Event { clock: left.clock(), state: is, what }).collect()
+        seen.extend(told.trip.map(What::Trip));
+        let (clock, state) = (left.clock(), left.state());
+        seen.into_iter().map(|what| Event { clock, state, what }).collect()
     }
 
-    fn see_byte(&mut self, byte: u8, told: &Told, seen: &mut Vec<What>) {
+    fn see_byte(&mut self, byte: u8, before: &BoxRecord, told: &Told, seen: &mut Vec<What>) {
         if byte >= 0x80 && !self.frame.is_empty() {
             seen.push(What::Dropped(std::mem::take(&mut self.frame)));
         }
@@ -116,9 +101,17 @@ impl Watcher {
             (answer, Some(reply)) => {
                 let mut bytes = std::mem::take(&mut self.frame);
                 bytes.push(byte);
-                seen.push(What::Decided { bytes, answer, reply });
+                let listed = before.core.run.list.stim;
+                let reasons = reason::of(before, &bytes, answer);
+                seen.push(What::Decided(Decided { bytes, listed, answer, reply, reasons }));
             }
             _ => self.frame.push(byte),
         }
+    }
+
+    /// What there is to say at the session's end, where the unit has this box.
+    pub fn end(self, left: &Guard) -> Option<Event> {
+        let (clock, state, what) = (left.clock(), left.state(), What::Unfinished(self.frame));
+        (what != What::Unfinished(Vec::new())).then_some(Event { clock, state, what })
     }
 }

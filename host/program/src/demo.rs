@@ -60,7 +60,7 @@ impl Demo {
         against.tell(NAMES, &LAX, &STRICT, out)?;
 
         for ((planned, name), guard) in traces.into_iter().zip(NAMES).zip(&guards) {
-            let trace = hex::spelt(&guard.trace().expect("its own ring is ready"));
+            let trace = hex::spelt(&guard.trace());
             planned.write(format!("# case 12, {name} unit\n{trace}\n").as_bytes())?;
         }
         picture.write(courses.drawn(&NAMES, session.end()).as_bytes())?;

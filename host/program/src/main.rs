@@ -20,6 +20,7 @@ mod play;
 mod profile;
 mod progress;
 mod read;
+mod reason;
 mod replay;
 mod session;
 mod setting;

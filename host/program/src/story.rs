@@ -1,6 +1,6 @@
 //! What units did in a session, in lines: the commands with their answers, pulses and trips.
 
-use crate::course::{Event, Pulse, What};
+use crate::course::{Decided, Event, Pulse, What};
 use crate::failure::{Failure, Out};
 use crate::play::{play, Done, Step};
 use crate::progress::Progress;
@@ -86,10 +86,10 @@ impl Totals {
     fn add(&mut self, events: &[Event]) {
         for event in events {
             match event.what {
-                What::Decided { .. } => self.commands += 1,
+                What::Decided(_) => self.commands += 1,
                 What::Pulse(_) => self.pulses += 1,
                 What::Trip(_) => self.trips += 1,
-                What::Stray(_) | What::Dropped(_) => (),
+                What::Stray(_) | What::Dropped(_) | What::Unfinished(_) => (),
             }
         }
     }
@@ -103,7 +103,7 @@ fn told(step: &Step) -> String {
     let mut lines = Vec::new();
     let events = || step.of.iter().flat_map(|done| &done.events);
     let decided = events().find_map(|event| match &event.what {
-        What::Decided { bytes, .. } => Some(bytes),
+        What::Decided(Decided { bytes, .. }) => Some(bytes),
         _ => None,
     });
     if let Some(bytes) = decided {
@@ -130,13 +130,14 @@ fn columns(cells: &[String]) -> String {
 
 fn event(event: &Event) -> String {
     match &event.what {
-        What::Decided { answer, reply, .. } => {
+        What::Decided(Decided { answer, reply, .. }) => {
             format!("{}, reply {}", words::answer(*answer), hex::spelt(&[*reply]))
         }
         What::Stray(byte) => {
             format!("stray byte {}, answer {}", hex::spelt(&[*byte]), Answer::LowByte.number())
         }
         What::Dropped(bytes) => format!("dropped unfinished: {}", hex::spelt(bytes)),
+        What::Unfinished(bytes) => format!("unfinished at the end: {}", hex::spelt(bytes)),
         What::Pulse(pulse) => told_pulse(pulse),
         What::Trip(cause) => format!("TRIP, cause: {cause}"),
     }

@@ -24,11 +24,10 @@ pub trait Unit {
 
 impl Unit for Guard {
     fn call(&mut self, call: Call) -> Told {
-        let told = match call {
+        match call {
             Call::Byte(byte) => self.byte(byte),
-            Call::Tick => self.tick(),
-        };
-        told.expect("its own ring is ready, and no session goes on behind the clock's end")
+            Call::Tick => self.tick().expect("no session goes on behind the clock's end"),
+        }
     }
 
     fn guard(&self) -> &Guard {

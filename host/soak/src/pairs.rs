@@ -48,7 +48,7 @@ impl Pair<'_> {
             if rng.gen_range(0..5) < 3 {
                 for (pause, byte) in act::bytes(rng, &unit) {
                     self.ticks(pause)?;
-                    self.call(|guard| guard.byte(byte).expect("its own ring is ready"))?;
+                    self.call(|guard| guard.byte(byte))?;
                 }
             } else {
                 self.ticks(act::ticks(rng, &unit))?;

@@ -1,7 +1,7 @@
 //! The comparison of the exports with the independent codec.
 
 use independent::{Command, Frame};
-use yarrowbell::{calls, raw, Answer};
+use yarrowbell::{calls, raw, Answer, NotRead, NotWritten};
 
 /// Reads by every export and by the independent codec, and hands back what all of them say.
 pub fn read(bytes: &[u8], count: usize) -> Result<Frame, u8> {
@@ -38,7 +38,8 @@ pub fn read(bytes: &[u8], count: usize) -> Result<Frame, u8> {
     let wrapped = expected
         .map(|frame| yarrowbell::Frame { command: ours(&frame.command), used: frame.used })
         .map_err(known);
-    assert_eq!(yarrowbell::read(bytes, count), wrapped, "{bytes:02X?}, count {count}");
+    let read = yarrowbell::read(bytes, count).map_err(NotRead::answer);
+    assert_eq!(read, wrapped, "{bytes:02X?}, count {count}");
     expected
 }
 
@@ -79,6 +80,7 @@ pub fn write(command: &Command, count: usize, room: usize) -> Result<Vec<u8>, u8
         expected[GUARD..GUARD + frame.len()].copy_from_slice(frame);
     }
     let wrapped = yarrowbell::write(&ours(command), count, &mut found[output]);
+    let wrapped = wrapped.map_err(NotWritten::answer);
     assert_eq!(wrapped, answer.map_err(known), "{command:?}, count {count}, room {room}");
     assert_eq!(found, expected, "{command:?}, count {count}, room {room}");
     frame

@@ -8,7 +8,7 @@ const SINGLE: [u8; 4] = [0xEF, 0x01, 0x48, 0x27];
 
 fn answers(guard: &mut Guard, bytes: &[u8]) -> Vec<(u8, Option<u8>)> {
     let mut answer = |&byte: &u8| {
-        let told = guard.byte(byte).expect("the box takes every byte");
+        let told = guard.byte(byte);
         (told.answer.number(), told.reply)
     };
     bytes.iter().map(&mut answer).collect()
@@ -45,7 +45,7 @@ fn case_12() {
     assert_eq!(ticks(&mut guard, 1), []);
     assert_eq!((guard.clock(), guard.state()), (255, State::Tripped));
     assert_eq!(ticks(&mut guard, 5_000), []);
-    let trace = guard.trace().expect("the output has room");
+    let trace = guard.trace();
     assert_eq!(trace[trace.len() - 6..], [3, 255, 0, 0, 0, 2]);
 }
 
@@ -60,7 +60,7 @@ fn case_13() {
         [0x02, 0x91, 0x00, 0x00, 0x00, 0x03, 0x2C, 0x01, 0x1E],
     ]
     .concat();
-    assert_eq!(guard.trace(), Ok(trace.clone()));
+    assert_eq!(guard.trace(), trace);
     let mut out = [0xAA; 30];
     assert_eq!(guard.readout(&mut out), Ok(27));
     assert_eq!(out[..27], trace);
@@ -83,16 +83,16 @@ fn case_15() {
     let expected = [&unfinished[..], &[(0, Some(0xC1))], &unfinished, &[(8, Some(0xC0))]].concat();
     assert_eq!(answers(&mut guard, &twice), expected);
     let trace = [&[2, 0, 0, 0, 0, 1, 200, 0, 39][..], &[1, 0, 0, 0, 0, 3, 8]].concat();
-    assert_eq!(guard.trace().map(|trace| trace[7..].to_vec()), Ok(trace));
+    assert_eq!(guard.trace()[7..], trace);
 }
 
 #[test]
 fn case_16() {
     let refusal = Guard::new(Profile::LOOSEST, 15).expect_err("15 bytes are too few");
-    assert_eq!(refusal.answer, Answer::RingOutside);
+    assert_eq!(refusal.answer(), Answer::RingOutside);
     for capacity in [16, 4096] {
         let guard = Guard::new(Profile::LOOSEST, capacity).expect("profile and capacity are good");
-        assert_eq!(guard.trace(), Ok(vec![]));
+        assert_eq!(guard.trace(), [0u8; 0]);
     }
     assert!(Guard::new(Profile::LOOSEST, 4097).is_err());
 }

@@ -1,12 +1,12 @@
 //! The words of refusals.
 
-use yarrowbell::{About, Answer, Guard, Profile, Refusal};
+use yarrowbell::{Answer, Guard, Profile, Refusal};
 
 fn refused(change: impl Fn(&mut Profile)) -> String {
     let mut profile = Profile::LOOSEST;
     change(&mut profile);
     let refusal = Guard::new(profile, 64).expect_err("the profile is not good");
-    assert_eq!(refusal.answer, Answer::ProfileNotGood);
+    assert_eq!(refusal.answer(), Answer::ProfileNotGood);
     refusal.to_string()
 }
 
@@ -40,7 +40,7 @@ fn profiles() {
 fn a_profile_before_its_ring() {
     let profile = Profile { watchdog: 0, ..Profile::LOOSEST };
     let refusal = Guard::new(profile, 15).expect_err("the profile is not good");
-    assert_eq!(refusal.answer, Answer::ProfileNotGood);
+    assert_eq!(refusal.answer(), Answer::ProfileNotGood);
 }
 
 #[test]
@@ -56,7 +56,7 @@ fn capacities() {
 #[test]
 fn outputs() {
     let mut guard = Guard::new(Profile::LOOSEST, 64).expect("profile and capacity are good");
-    guard.byte(0xC0).expect("a Stop is taken");
+    guard.byte(0xC0);
     let mut out = [0xAA; 6];
     let refusal = guard.readout(&mut out).expect_err("the trace has 7 bytes");
     let words = "answer 16: an output of 6 bytes for a trace of 7: output too short";
@@ -66,7 +66,6 @@ fn outputs() {
 
 #[test]
 fn the_clock() {
-    let refusal = Refusal { answer: Answer::ClockAtEnd, about: About::Call { clock: u32::MAX } };
-    let words = "answer 15: a call at clock 4294967295: clock at its end";
-    assert_eq!(refusal.to_string(), words);
+    let words = "answer 15: a tick at clock 4294967295: clock at its end";
+    assert_eq!(Refusal::Tick.to_string(), words);
 }

@@ -3,7 +3,7 @@
 use yarrowbell::{Answer, Guard, Profile, Released, Told};
 
 fn last(guard: &mut Guard, bytes: &[u8]) -> Told {
-    let told = bytes.iter().map(|&byte| guard.byte(byte).expect("the box takes every byte"));
+    let told = bytes.iter().map(|&byte| guard.byte(byte));
     told.last().expect("there is a byte")
 }
 

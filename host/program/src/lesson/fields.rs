@@ -7,8 +7,7 @@ use crate::failure::{Failure, Out};
 use crate::hex;
 use crate::play::play;
 use crate::progress::Progress;
-use crate::trace::records::{self, Body};
-use yarrowbell::{Guard, Profile};
+use yarrowbell::{records, Body, Guard, Profile};
 
 const PAGE: Page = Page {
     title: "fields",
@@ -60,7 +59,7 @@ pub fn teach(out: Out) -> Result<Drawn, Failure> {
     drop(progress);
     let done = courses.0.remove(0);
 
-    let trace = unit.trace().expect("its own ring is ready");
+    let trace = unit.trace();
     let records = of_pulses(&trace);
     line(["record", "by the guess", "by document 01"], out)?;
     for Read { bytes, clock, pulse } in &records[records.len() - 4..] {
@@ -112,11 +111,12 @@ struct Read<'a> {
 
 /// The records of pulses in a trace.
 fn of_pulses(trace: &[u8]) -> Vec<Read<'_>> {
-    let records = records::of(trace).expect("a readout has whole records");
+    let records = records(trace).expect("a readout has whole records");
     let pulses = records.into_iter().filter_map(|record| match record.body {
         Body::Pulse { channel, width, current } => {
             let pulse = Pulse { channel, width, current: current.into() };
-            Some(Read { bytes: &trace[record.at..record.at + 9], clock: record.clock, pulse })
+            let bytes = &trace[record.at..record.at + record.body.length()];
+            Some(Read { bytes, clock: record.clock, pulse })
         }
         _ => None,
     });

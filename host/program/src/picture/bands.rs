@@ -116,7 +116,8 @@ fn ink_on(state: State) -> &'static RGBColor {
 #[cfg(test)]
 mod tests {
     use super::{Band, Bands, State, Time, LEFT, RIGHT};
-    use crate::course::{Cause, Event, What};
+    use crate::course::{Event, What};
+    use yarrowbell::Cause;
 
     /// Tripped for one tick of a million.
     #[test]

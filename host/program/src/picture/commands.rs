@@ -5,7 +5,7 @@ use super::ink::{self, filled, Area, Drawn};
 use super::labels::{Labels, LEVEL};
 use super::thinning::apart;
 use super::Panel;
-use crate::course::{Event, What};
+use crate::course::{Decided, Event, What};
 use crate::words;
 use plotters::prelude::{Circle, Cross, Polygon, Text};
 use plotters::style::text_anchor::{HPos, VPos};
@@ -29,11 +29,11 @@ pub enum Mark {
 impl Mark {
     fn of(what: &What) -> Option<Mark> {
         match what {
-            What::Decided { answer: Answer::Done, .. } => Some(Mark::Done),
-            What::Decided { .. } => Some(Mark::Refused),
+            What::Decided(Decided { answer: Answer::Done, .. }) => Some(Mark::Done),
+            What::Decided(_) => Some(Mark::Refused),
             What::Stray(_) => Some(Mark::Stray),
             What::Dropped(_) => Some(Mark::Dropped),
-            What::Pulse(_) | What::Trip(_) => None,
+            What::Unfinished(_) | What::Pulse(_) | What::Trip(_) => None,
         }
     }
 
@@ -102,7 +102,7 @@ impl Rows {
     /// come first: they are fewer, and more is to be seen in them.
     fn draw_labels(&self, area: &Area, events: &[Event], time: &Time) -> Drawn {
         let place = |labels: &mut Labels, mark: Mark, event: &Event| match &event.what {
-            What::Decided { bytes, answer, .. } if Mark::of(&event.what) == Some(mark) => {
+            What::Decided(Decided { bytes, answer, .. }) if Mark::of(&event.what) == Some(mark) => {
                 let words = format!("{} {}", words::name(bytes[0]), answer.number());
                 let row = self.middles().find(|(row, _)| *row == mark);
                 let foot = row.map_or(0, |(_, middle)| middle);

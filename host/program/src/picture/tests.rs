@@ -2,9 +2,9 @@
 
 use super::tint::TINTS;
 use super::{svg, Panel};
-use crate::course::{Cause, Event, Pulse, What};
+use crate::course::{Decided, Event, Pulse, What};
 use plotters::style::RGBColor;
-use yarrowbell::{Answer, State};
+use yarrowbell::{Answer, Cause, State};
 
 fn pulse(clock: u32, channel: u8, width: u16, current: u16) -> Event {
     let what = What::Pulse(Pulse { channel, width, current });
@@ -12,7 +12,8 @@ fn pulse(clock: u32, channel: u8, width: u16, current: u16) -> Event {
 }
 
 fn decided(clock: u32, state: State, first: u8, answer: Answer) -> Event {
-    Event { clock, state, what: What::Decided { bytes: vec![first], answer, reply: 0 } }
+    let decided = Decided { bytes: vec![first], listed: 0, answer, reply: 0, reasons: Vec::new() };
+    Event { clock, state, what: What::Decided(decided) }
 }
 
 /// An Init, two pulses, of which the second is far too strong, and an Update over a limit.

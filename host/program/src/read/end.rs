@@ -2,14 +2,14 @@
 
 use super::check;
 use super::given::{Given, Value};
-use crate::{hex, words};
-use yarrowbell::{reply, Answer, Frame};
+use crate::hex;
+use yarrowbell::{reply, Answer, Frame, NotRead};
 
 pub fn of(
     given: &Given,
     values: &[Value],
     count: usize,
-    read: &Result<Frame, Answer>,
+    read: &Result<Frame, NotRead>,
 ) -> Vec<String> {
     let mut lines = Vec::new();
     if given.is_whole() {
@@ -27,7 +27,7 @@ pub fn of(
     let ident = given.bytes[0] >> 5 & 3;
     let (used, answer, words) = match *read {
         Ok(frame) => (frame.used, Answer::Done, "answer 0: good frame".to_owned()),
-        Err(answer) => (0, answer, words::answer(answer)),
+        Err(why) => (0, why.answer(), why.to_string()),
     };
     // No frame is read for a number that cannot be listed, and so no command decided.
     let reply = if listable { reply(ident, answer) } else { 0 };

@@ -100,7 +100,7 @@ mod tests {
     use super::*;
     use rand::rngs::SmallRng;
     use rand::{Rng, SeedableRng};
-    use yarrowbell::{read, Answer};
+    use yarrowbell::{read, NotRead};
 
     /// A frame of random bits, of which only the check is right.
     fn frame(rng: &mut SmallRng, count: usize) -> Vec<u8> {
@@ -141,8 +141,8 @@ mod tests {
                     assert_eq!((good, frame.used), (true, given.length()), "{bytes:02X?}");
                     read_well[usize::from(bytes[0] >> 5 & 3)] += 1;
                 }
-                Err(answer) => {
-                    assert_eq!((good, answer), (false, Answer::NotGood), "{bytes:02X?}")
+                Err(why) => {
+                    assert_eq!((good, why), (false, NotRead::NotGood), "{bytes:02X?}")
                 }
             }
         }

@@ -1,7 +1,6 @@
 //! `yarrowbell trace`
 
 mod readout;
-pub mod records;
 mod told;
 
 use crate::failure::{Failure, Out};
@@ -36,7 +35,7 @@ impl Trace {
         writeln!(out, "{:>4}  {:>10}  {:>11}  record", "at", "clock", "ms")?;
         for record in records {
             let (at, clock, ms) = (record.at, record.clock, words::milliseconds(record.clock));
-            writeln!(out, "{at:>4}  {clock:>10}  {ms:>11}  {}", record.body)?;
+            writeln!(out, "{at:>4}  {clock:>10}  {ms:>11}  {}", told::body(record.body))?;
         }
         Ok(())
     }

@@ -1,10 +1,10 @@
 //! The bytes of a readout, as words of the command line or in a file.
 
-use super::records::{self, Record};
 use crate::failure::BadInput;
 use crate::{hex, input};
 use std::ffi::OsString;
 use std::path::{Path, PathBuf};
+use yarrowbell::Record;
 
 /// Bytes, and where they were given.
 pub struct Readout {
@@ -52,7 +52,7 @@ impl Readout {
     }
 
     pub fn records(&self) -> Result<Vec<Record>, BadInput> {
-        records::of(&self.bytes).map_err(|why| match (&self.file, why.at()) {
+        yarrowbell::records(&self.bytes).map_err(|why| match (&self.file, why.at()) {
             (None, _) => BadInput::argument("<HEX>...", why),
             (Some((file, _)), None) => BadInput::file(file, why),
             (Some((file, lines)), Some(at)) => BadInput::line(file, lines[at], why),

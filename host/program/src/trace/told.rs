@@ -1,27 +1,23 @@
 //! Records in words: every field with its name and unit.
 
-use super::records::Body;
 use crate::field::Field;
 use crate::words;
-use std::fmt;
-use yarrowbell::Answer;
+use yarrowbell::{Answer, Body, Cause};
 
 /// The record's name and its fields.
-impl fmt::Display for Body {
-    fn fmt(&self, out: &mut fmt::Formatter) -> fmt::Result {
-        match *self {
-            Body::Answer { ident, answer } => {
-                write!(out, "answer  {}, {}", told_ident(ident), told_answer(answer))
-            }
-            Body::Pulse { channel, width, current } => {
-                let broken = (!(1..=8).contains(&channel)).then_some("a channel is 1 to 8");
-                let channel = ranged(format!("channel {channel}"), broken);
-                let width = valued("width", Field::PulseWidth, width);
-                let current = valued("current", Field::PulseCurrent, current.into());
-                write!(out, "pulse   {channel}, {width}, {current}")
-            }
-            Body::Trip { cause } => write!(out, "trip    {}", told_cause(cause)),
+pub fn body(body: Body) -> String {
+    match body {
+        Body::Answer { ident, answer } => {
+            format!("answer  {}, {}", told_ident(ident), told_answer(answer))
         }
+        Body::Pulse { channel, width, current } => {
+            let broken = (!(1..=8).contains(&channel)).then_some("a channel is 1 to 8");
+            let channel = ranged(format!("channel {channel}"), broken);
+            let width = valued("width", Field::PulseWidth, width);
+            let current = valued("current", Field::PulseCurrent, current.into());
+            format!("pulse   {channel}, {width}, {current}")
+        }
+        Body::Trip { cause } => format!("trip    {}", told_cause(cause)),
     }
 }
 
@@ -52,9 +48,8 @@ fn told_answer(answer: u8) -> String {
 }
 
 fn told_cause(cause: u8) -> String {
-    match cause {
-        1 => "cause 1: limit".to_owned(),
-        2 => "cause 2: watchdog".to_owned(),
-        _ => ranged(format!("cause {cause}"), Some("a cause is 1 or 2")),
+    match Cause::from_number(cause) {
+        Some(known) => format!("cause {cause}: {known}"),
+        None => ranged(format!("cause {cause}"), Some("a cause is 1 or 2")),
     }
 }

@@ -2,9 +2,8 @@
 
 use crate::failure::BadInput;
 use crate::field::Field;
-use crate::words;
 use std::fmt::Display;
-use yarrowbell::Answer;
+use yarrowbell::NotWritten;
 
 /// An argument, what it gives, and document 01's rule if that is not good.
 pub struct Argument {
@@ -23,10 +22,9 @@ impl Argument {
         }
     }
 
-    /// What is said of it for the library's answer, if it is at fault.
-    pub fn fault(&self, answer: Answer) -> Option<BadInput> {
-        let (answer, rule) = (words::answer(answer), self.broken?);
-        let what = format!("{} is not good ({answer}): {rule}", self.given);
+    /// What is said of it for the library's refusal, if it is at fault.
+    pub fn fault(&self, why: NotWritten) -> Option<BadInput> {
+        let what = format!("{} is not good ({why}): {}", self.given, self.broken?);
         Some(BadInput::argument(&self.name, what))
     }
 }

@@ -44,8 +44,8 @@ impl Write {
         let mut frame = [0; 25];
         match yarrowbell::write(&command, count, &mut frame) {
             Ok(used) => Ok(writeln!(out, "{}", hex::spelt(&frame[..used]))?),
-            Err(answer) => {
-                let fault = arguments.iter().find_map(|argument| argument.fault(answer));
+            Err(why) => {
+                let fault = arguments.iter().find_map(|argument| argument.fault(why));
                 Err(fault.expect("the library refuses by document 01's rules").into())
             }
         }

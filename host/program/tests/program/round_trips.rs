@@ -70,9 +70,9 @@ fn says_as_the_package(bytes: &[u8], count: usize) {
             assert_eq!(told::frame(&text), (frame, reply(ident, Answer::Done)), "{line}");
             assert_eq!(shown.len(), frame.used, "{line}");
         }
-        Err(answer) => {
-            let replied = reply(ident, answer);
-            let last = format!("answer {}: {answer}, reply {replied:02X}", answer.number());
+        Err(why) => {
+            let answer = why.answer();
+            let last = format!("{why}, reply {:02X}", reply(ident, answer));
             assert_eq!(text.lines().last(), Some(last.as_str()), "{line}");
             assert!(text.contains("\nbytes used 0\n"), "{line}");
             assert!(shows(&text, answer), "{line}");

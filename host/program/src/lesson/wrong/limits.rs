@@ -9,6 +9,7 @@ pub fn call(unit: &mut Guard, call: Call) -> Told {
     if told.answer == Answer::OverLimit {
         // It was refused, so nothing may change?
         *unit = old;
+        return Told { trip: None, ..told };
     }
     told
 }
