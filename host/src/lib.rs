@@ -9,6 +9,7 @@
 //! codec, the ring and the machine in `independent/`, which share nothing with it.
 
 mod answer;
+mod box_record;
 pub mod calls;
 mod cause;
 mod frames;
@@ -16,7 +17,6 @@ mod guard;
 mod not_done;
 mod profile;
 pub mod raw;
-mod record;
 mod records;
 mod refusal;
 mod state;
