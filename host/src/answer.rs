@@ -1,17 +1,16 @@
 //! The numbers that the box answers.
 
-use thiserror::Error;
+use std::fmt;
 
 /// Makes the answers of a table: number, name, words.
 macro_rules! answers {
     ($($number:literal $name:ident $words:literal)*) => {
         /// An answer of document 01, "Numbers the box answers".
-        #[derive(Clone, Copy, Debug, Error, PartialEq, Eq)]
+        #[derive(Clone, Copy, Debug, PartialEq, Eq)]
         #[repr(u8)]
         pub enum Answer {
             $(
                 #[doc = concat!(stringify!($number), ": ", $words, ".")]
-                #[error($words)]
                 $name = $number,
             )*
         }
@@ -26,6 +25,14 @@ macro_rules! answers {
                     $($number => Some(Answer::$name),)*
                     _ => None,
                 }
+            }
+        }
+
+        impl fmt::Display for Answer {
+            fn fmt(&self, out: &mut fmt::Formatter) -> fmt::Result {
+                out.pad(match self {
+                    $(Answer::$name => $words,)*
+                })
             }
         }
     };
