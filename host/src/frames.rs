@@ -26,7 +26,8 @@ pub struct Frame {
     pub used: usize,
 }
 
-/// Reads the frame at the start of `bytes`, for a list of `count` channels.
+/// Reads the frame at the start of `bytes`. `count` is the number of listed channels, 1 to 8, which
+/// an Update's length follows from; any other is [`NotRead::NotGood`].
 ///
 /// ```
 /// use yarrowbell::{read, Command, NotRead, Single};
@@ -60,8 +61,8 @@ pub fn read(bytes: &[u8], count: usize) -> Result<Frame, NotRead> {
     NotRead::known(answer).map_or(Ok(Frame { command, used: used.into() }), Err)
 }
 
-/// Writes the frame of a command to the start of `out`, and hands back how many bytes it has.
-/// `count` is the number of listed channels, which matters to an Update alone.
+/// Writes the frame of a command to the start of `out`, and hands back how many bytes it has, 25 at
+/// most. `count` is the number of listed channels, which matters to an Update alone.
 ///
 /// ```
 /// use yarrowbell::{write, Command, NotWritten, Single};
@@ -84,6 +85,15 @@ pub fn write(command: &Command, count: usize, out: &mut [u8]) -> Result<usize, N
 
 /// The reply byte to a decided command, of whose Ident only the low two bits count; 0 where the
 /// answer decides none.
+///
+/// ```
+/// use yarrowbell::{reply, Answer};
+///
+/// // To a Single that is carried out, to one that is not, and to one that has just begun.
+/// assert_eq!(reply(3, Answer::Done), 0xC1);
+/// assert_eq!(reply(3, Answer::OverLimit), 0xC0);
+/// assert_eq!(reply(3, Answer::Unfinished), 0);
+/// ```
 pub fn reply(ident: u8, answer: Answer) -> u8 {
     calls::reply(ident, answer.number())
 }

@@ -1,9 +1,9 @@
 //! Safe calls to the proved guard unit of document 01: its box, its trace ring, and the reader and
 //! writer of ScienceMode frames.
 //!
-//! `Guard`, `records` for its trace, and `read`, `write` and `reply` for frames, are what a host
-//! program uses. `calls` has one function for each export of the library, for tests that drive them
-//! one by one.
+//! [`Guard`], [`records()`] for its trace, and [`read()`], [`write()`] and [`reply()`] for frames, are
+//! what a host program uses. [`calls`] has one function for each export of the library, for tests
+//! that drive them one by one. Clocks count tenths of a millisecond.
 //!
 //! `cargo test` in this folder has the library proved and built first, and compares it with the
 //! codec, the ring and the machine in `independent/`, which share nothing with it.

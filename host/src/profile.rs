@@ -31,10 +31,15 @@ struct Number {
 }
 
 impl Profile {
+    /// What the largest current of a channel may be, in milliamps.
     pub const CURRENTS: RangeInclusive<u32> = 0..=127;
+    /// What the largest width of a channel may be, in microseconds.
     pub const WIDTHS: RangeInclusive<u32> = 0..=500;
+    /// What the largest charge may be, in nanocoulombs.
     pub const CHARGES: RangeInclusive<u32> = 0..=63_500;
+    /// What the shortest t1 may be, in tenths of a millisecond.
     pub const SHORTEST: RangeInclusive<u32> = 30..=10_235;
+    /// What the watchdog may be, in tenths of a millisecond.
     pub const WATCHDOGS: RangeInclusive<u32> = 1..=600_000;
 
     /// The good profile that is nowhere tighter than another.
@@ -58,6 +63,16 @@ impl Profile {
 
     /// The first number by which this profile is looser than the other: it is nowhere looser if
     /// there is none.
+    ///
+    /// ```
+    /// use yarrowbell::Profile;
+    ///
+    /// let mut tighter = Profile { watchdog: 250, ..Profile::LOOSEST };
+    /// tighter.currents[2] = 100;
+    /// assert_eq!(tighter.looser_than(&Profile::LOOSEST), None);
+    /// let looser = Profile::LOOSEST.looser_than(&tighter).expect("channel 3 has another limit");
+    /// assert_eq!(looser.to_string(), "the largest current of channel 3 is 127, the other's 100");
+    /// ```
     pub fn looser_than(&self, other: &Profile) -> Option<Looser> {
         let looser = |(is, other): &(Number, Number)| {
             if is.falling {

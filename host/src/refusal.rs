@@ -6,6 +6,17 @@ use std::error::Error;
 use std::fmt;
 
 /// What was refused, by one of the answers 11 to 17: the call changed nothing.
+///
+/// ```
+/// use yarrowbell::{Guard, Profile};
+///
+/// let profile = Profile { watchdog: 0, ..Profile::LOOSEST };
+/// let refusal = Guard::new(profile, 64).expect_err("no good watchdog is 0");
+/// assert_eq!(
+///     refusal.to_string(),
+///     "answer 11: the watchdog is 0, less than 1: profile not good"
+/// );
+/// ```
 #[derive(Clone, Debug, PartialEq, Eq)]
 pub enum Refusal {
     /// A profile with this number.

@@ -1,5 +1,9 @@
-//! A safe function for each export. None of them asks anything of its numbers, so that a slice's
-//! own pointer and length are all that a call must be given rightly.
+//! A safe function for each export. None of them asks anything of its numbers: any record, ring and
+//! part has a defined answer, so that a slice's own pointer and length are all that a call must be
+//! given rightly.
+//!
+//! A function's refusals are document 01's numbers in the order in which it tests them. One that
+//! refuses leaves everything as it was.
 
 mod boxes;
 mod frames;

@@ -1,39 +1,54 @@
 //! The exports for frames.
 
-/// The variables of an Init frame: N_Factor, Channel_Stim, Channel_Lf, Group_Time, Main_Time.
+/// The variables of an Init frame: a list of channels and its times.
 #[derive(Clone, Copy, Debug, Default, PartialEq, Eq)]
 #[repr(C)]
 pub struct Init {
+    /// N_Factor, 0 to 7: how many cycles a low frequency channel leaves out before each in which it
+    /// pulses.
     pub factor: u8,
+    /// Channel_Stim, not 0: the listed channels, from channel 1 in bit 0 to channel 8 in bit 7.
     pub stim: u8,
+    /// Channel_Lf: the low frequency channels, in the same bits. A bit of a channel that is not
+    /// listed is kept and has no effect.
     pub lf: u8,
+    /// Group_Time, 3 to 29. From one pulse of a doublet or triplet to the next passes t2, which is 5
+    /// times Group_Time plus 15, in tenths of a millisecond.
     pub group: u8,
+    /// Main_Time, 4 to 2,045. A cycle takes t1, which is 5 times Main_Time plus 10, in tenths of a
+    /// millisecond.
     pub main: u16,
 }
 
-/// One channel's variables of an Update frame: Pulse_Width, Mode, Pulse_Current.
+/// One channel's variables of an Update frame.
 #[derive(Clone, Copy, Debug, Default, PartialEq, Eq)]
 #[repr(C)]
 pub struct Setting {
+    /// Pulse_Width in microseconds: 0, which releases nothing, or 10 to 500.
     pub width: u16,
+    /// Mode: 0 a single pulse in each cycle, 1 a doublet, 2 a triplet.
     pub mode: u8,
+    /// Pulse_Current in milliamps: 0, which releases nothing, to 127.
     pub current: u8,
 }
 
-/// What an Update frame is written from: the listed channels' settings, lowest channel first, and
-/// zeros behind them.
+/// What an Update frame is written from.
 #[derive(Clone, Copy, Debug, Default, PartialEq, Eq)]
 #[repr(C)]
 pub struct Settings {
+    /// The settings of the listed channels, lowest channel first, and zeros behind them.
     pub all: [Setting; 8],
 }
 
-/// The variables of a Single frame: Pulse_Width, Channel_Number (0 to 7), Pulse_Current.
+/// The variables of a Single frame: one pulse.
 #[derive(Clone, Copy, Debug, Default, PartialEq, Eq)]
 #[repr(C)]
 pub struct Single {
+    /// Pulse_Width in microseconds: 0, which releases nothing, or 10 to 500.
     pub width: u16,
+    /// Channel_Number, 0 to 7: 0 for channel 1. Pulses and the ring count channels from 1.
     pub channel: u8,
+    /// Pulse_Current in milliamps: 0, which releases nothing, to 127.
     pub current: u8,
 }
 
@@ -41,7 +56,9 @@ pub struct Single {
 #[derive(Clone, Copy, Debug, Default, PartialEq, Eq)]
 #[repr(C)]
 pub struct Wrote {
+    /// Document 01's number: 0, or 4 or 16 if no frame was written.
     pub answer: u8,
+    /// How many bytes of the output the frame has, 1 to 25; 0 if none was written.
     pub used: u8,
 }
 
@@ -49,9 +66,13 @@ pub struct Wrote {
 #[derive(Clone, Copy, Debug, Default, PartialEq, Eq)]
 #[repr(C)]
 pub struct ReadInit {
+    /// Document 01's number: 0, or 1 to 4 or 17 if no frame was read.
     pub answer: u8,
+    /// The frame's Ident, 0 to 3, whichever command it is; 0 if none was read.
     pub ident: u8,
+    /// How many bytes the frame has, 1 to 25; 0 if none was read.
     pub used: u16,
+    /// The variables; zero if no Init was read.
     pub init: Init,
 }
 
@@ -59,9 +80,14 @@ pub struct ReadInit {
 #[derive(Clone, Copy, Debug, Default, PartialEq, Eq)]
 #[repr(C)]
 pub struct ReadUpdate {
+    /// Document 01's number: 0, or 1 to 4 or 17 if no frame was read.
     pub answer: u8,
+    /// The frame's Ident, 0 to 3, whichever command it is; 0 if none was read.
     pub ident: u8,
+    /// How many bytes the frame has, 1 to 25; 0 if none was read.
     pub used: u16,
+    /// The settings of the listed channels, lowest channel first, and zeros behind them; zero
+    /// throughout if no Update was read.
     pub settings: [Setting; 8],
 }
 
@@ -69,8 +95,11 @@ pub struct ReadUpdate {
 #[derive(Clone, Copy, Debug, Default, PartialEq, Eq)]
 #[repr(C)]
 pub struct ReadStop {
+    /// Document 01's number: 0, or 1 to 4 or 17 if no frame was read.
     pub answer: u8,
+    /// The frame's Ident, 0 to 3, whichever command it is; 0 if none was read.
     pub ident: u8,
+    /// How many bytes the frame has, 1 to 25; 0 if none was read.
     pub used: u16,
 }
 
@@ -78,9 +107,13 @@ pub struct ReadStop {
 #[derive(Clone, Copy, Debug, Default, PartialEq, Eq)]
 #[repr(C)]
 pub struct ReadSingle {
+    /// Document 01's number: 0, or 1 to 4 or 17 if no frame was read.
     pub answer: u8,
+    /// The frame's Ident, 0 to 3, whichever command it is; 0 if none was read.
     pub ident: u8,
+    /// How many bytes the frame has, 1 to 25; 0 if none was read.
     pub used: u16,
+    /// The variables; zero if no Single was read.
     pub single: Single,
 }
 

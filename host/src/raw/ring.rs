@@ -4,25 +4,32 @@
 #[derive(Clone, Copy, Debug, Default, PartialEq, Eq)]
 #[repr(C)]
 pub struct Part {
+    /// The place of the buffer at which it begins, counted from 0.
     pub offset: usize,
+    /// How many bytes it has: as many as the ring's capacity, or a call is refused with 13.
     pub size: usize,
 }
 
-/// What a box keeps of its ring: its capacity, where its oldest byte stands in the part, and how
-/// many bytes are used from there on, round at the part's end.
+/// What a box keeps of its ring, the bytes themselves being in a part of lent memory.
 #[derive(Clone, Copy, Debug, Default, PartialEq, Eq)]
 #[repr(C)]
 pub struct Ring {
+    /// How many bytes the ring has room for, 16 to 4,096.
     pub capacity: u32,
+    /// Where in the part its oldest byte stands, counted from 0: below the capacity.
     pub start: u32,
+    /// How many bytes its records have, from the start on and round at the part's end: at most the
+    /// capacity.
     pub used: u32,
 }
 
-/// What a push reports, with the ring that it leaves.
+/// What a push reports.
 #[derive(Clone, Copy, Debug, Default, PartialEq, Eq)]
 #[repr(C)]
 pub struct Pushed {
+    /// Document 01's number: 0, or 12 or 13 if nothing was pushed.
     pub answer: u32,
+    /// The ring that the push leaves; on a refusal the one that it was given.
     pub ring: Ring,
 }
 
@@ -30,7 +37,9 @@ pub struct Pushed {
 #[derive(Clone, Copy, Debug, Default, PartialEq, Eq)]
 #[repr(C)]
 pub struct Readout {
+    /// Document 01's number: 0, or 12, 13, 14 or 16 if nothing was copied.
     pub answer: u32,
+    /// How many bytes were copied to the output's start; 0 on a refusal.
     pub used: u32,
 }
 
