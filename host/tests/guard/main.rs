@@ -9,3 +9,5 @@ mod refusals;
 mod replies;
 #[path = "../shared/seeded.rs"]
 mod seeded;
+mod sent;
+mod trips;

@@ -1,17 +1,13 @@
 //! Document 01's cases of the box, through the guard.
 
+use crate::sent::{self, begun, UPDATE};
 use yarrowbell::{Answer, Guard, Profile, Released, State};
 
-const INIT: [u8; 6] = [0x88, 0x01, 0x20, 0x00, 0x30, 0x12];
-const UPDATE: [u8; 7] = [0xBB, 0x01, 0x48, 0x28, 0x22, 0x2C, 0x1E];
 const SINGLE: [u8; 4] = [0xEF, 0x01, 0x48, 0x27];
 
 fn answers(guard: &mut Guard, bytes: &[u8]) -> Vec<(u8, Option<u8>)> {
-    let mut answer = |&byte: &u8| {
-        let told = guard.byte(byte);
-        (told.answer.number(), told.reply)
-    };
-    bytes.iter().map(&mut answer).collect()
+    let told = sent::all(guard, bytes).into_iter();
+    told.map(|told| (told.answer.number(), told.reply)).collect()
 }
 
 fn ticks(guard: &mut Guard, count: usize) -> Vec<Released> {
@@ -22,16 +18,6 @@ fn ticks(guard: &mut Guard, count: usize) -> Vec<Released> {
         pulses.extend(told.released());
     }
     pulses
-}
-
-/// The Init of case 5 at clock 0 and the Update of case 6 at clock 5, with a watchdog of 250.
-fn begun(capacity: usize) -> Guard {
-    let profile = Profile { watchdog: 250, ..Profile::LOOSEST };
-    let mut guard = Guard::new(profile, capacity).expect("profile and capacity are good");
-    assert_eq!(answers(&mut guard, &INIT)[5], (0, Some(0x01)));
-    assert_eq!(ticks(&mut guard, 5), []);
-    assert_eq!(answers(&mut guard, &UPDATE)[6], (0, Some(0x41)));
-    guard
 }
 
 #[test]

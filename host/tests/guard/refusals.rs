@@ -50,6 +50,7 @@ fn capacities() {
         let ring = format!("a ring of {capacity} bytes, where 16 to 4096 are good");
         let words = "ring part outside the lent buffer, or its size not the box's capacity";
         assert_eq!(refusal.to_string(), format!("answer 13: {ring}: {words}"));
+        assert_eq!(refusal.answer(), Answer::RingOutside);
     }
 }
 
@@ -61,6 +62,7 @@ fn outputs() {
     let refusal = guard.readout(&mut out).expect_err("the trace has 7 bytes");
     let words = "answer 16: an output of 6 bytes for a trace of 7: output too short";
     assert_eq!(refusal.to_string(), words);
+    assert_eq!(refusal.answer(), Answer::OutputTooShort);
     assert_eq!(out, [0xAA; 6]);
 }
 
@@ -68,4 +70,5 @@ fn outputs() {
 fn the_clock() {
     let words = "answer 15: a tick at clock 4294967295: clock at its end";
     assert_eq!(Refusal::Tick.to_string(), words);
+    assert_eq!(Refusal::Tick.answer(), Answer::ClockAtEnd);
 }

@@ -1,11 +1,7 @@
 //! Which bytes are replied to, and where a pulse stands.
 
-use yarrowbell::{Answer, Guard, Profile, Released, Told};
-
-fn last(guard: &mut Guard, bytes: &[u8]) -> Told {
-    let told = bytes.iter().map(|&byte| guard.byte(byte));
-    told.last().expect("there is a byte")
-}
+use crate::sent::last;
+use yarrowbell::{Answer, Guard, Profile, Released};
 
 /// A refused Init has the reply 00, which is not the same as none.
 #[test]
