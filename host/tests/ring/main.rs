@@ -2,6 +2,8 @@
 //! outright.
 
 mod agree;
+#[path = "../shared/held.rs"]
+mod held;
 mod lent;
 mod placed;
 mod random;
@@ -19,3 +21,4 @@ mod papers;
 mod parts;
 mod records;
 mod tails;
+mod taken_apart;
