@@ -11,6 +11,7 @@ mod counts;
 mod damage;
 mod init;
 mod kinds;
+mod not_done;
 mod outputs;
 mod papers;
 mod replies;
