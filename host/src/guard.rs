@@ -32,7 +32,8 @@ impl Guard {
     /// The capacities, in bytes, that a ring may have.
     pub const CAPACITIES: RangeInclusive<usize> = 16..=4096;
 
-    /// A fresh box: idle at clock 0, with an empty ring of `capacity` bytes.
+    /// A fresh box: idle at clock 0, with an empty ring of `capacity` bytes. A profile that is not good
+    /// is refused, and then a capacity that is not one of [`Guard::CAPACITIES`].
     pub fn new(profile: Profile, capacity: usize) -> Result<Guard, Refusal> {
         // A capacity that is too large for its number is too large for a box.
         let made = calls::make(profile, capacity.try_into().unwrap_or(u32::MAX));
@@ -63,7 +64,7 @@ impl Guard {
     }
 
     /// Copies the ring's records to the start of `out`, oldest first, and hands back how many bytes
-    /// they have.
+    /// they have. An output that is too short for them is refused.
     pub fn readout(&self, out: &mut [u8]) -> Result<usize, Refusal> {
         let readout = calls::readout(self.record, &self.ring, self.part(), out);
         match Answer::known(readout.answer) {
@@ -75,7 +76,7 @@ impl Guard {
         }
     }
 
-    /// The ring's records, oldest first, as bytes; `records` takes them apart.
+    /// The ring's records, oldest first, as bytes; [`records`](crate::records()) takes them apart.
     pub fn trace(&self) -> Vec<u8> {
         let mut out = vec![0; self.record.ring.used as usize];
         self.readout(&mut out).expect("it has as much room as the ring uses");

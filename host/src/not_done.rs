@@ -4,17 +4,17 @@ use crate::Answer;
 use std::error::Error;
 use std::fmt;
 
-/// Makes a type of the answers that a call gives where it does nothing.
+/// Makes a type of the answers that a call gives where it does nothing, each with what it says.
 macro_rules! not_done {
-    ($($about:literal $name:ident: $($answer:ident)*;)*) => {$(
+    ($($about:literal $name:ident { $($answer:ident $says:literal)* })*) => {$(
         #[doc = $about]
         #[derive(Clone, Copy, Debug, PartialEq, Eq)]
         pub enum $name {
-            $(#[doc = concat!("[`Answer::", stringify!($answer), "`]")] $answer,)*
+            $(#[doc = $says] $answer,)*
         }
 
         impl $name {
-            /// The answer that it is.
+            /// The answer of this name.
             pub fn answer(self) -> Answer {
                 match self {
                     $($name::$answer => Answer::$answer,)*
@@ -43,8 +43,17 @@ macro_rules! not_done {
 
 not_done! {
     "Why no frame was read."
-    NotRead: Unfinished LowByte WrongCheck NotGood Cut;
+    NotRead {
+        Unfinished "The bytes end before the frame does."
+        LowByte "The first byte is low, and a frame begins with a high one."
+        WrongCheck "Check is not what the sum of the variables makes it."
+        NotGood "A value is not good, or the number of listed channels is not 1 to 8."
+        Cut "A high byte stands before the frame's end."
+    }
 
     "Why no frame was written."
-    NotWritten: NotGood OutputTooShort;
+    NotWritten {
+        NotGood "A value is not good, or an Update's number of listed channels is not 1 to 8."
+        OutputTooShort "The output has fewer bytes than the frame."
+    }
 }

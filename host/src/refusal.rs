@@ -5,7 +5,7 @@ use crate::{Answer, Guard};
 use std::error::Error;
 use std::fmt;
 
-/// What was refused, by one of the answers 11 to 17: the call changed nothing.
+/// What was refused, by answer 11, 13, 15 or 16: the call changed nothing.
 ///
 /// ```
 /// use yarrowbell::{Guard, Profile};
@@ -19,9 +19,9 @@ use std::fmt;
 /// ```
 #[derive(Clone, Debug, PartialEq, Eq)]
 pub enum Refusal {
-    /// A profile with this number.
+    /// A profile of which this number is out of its range.
     Profile(OutOfRange),
-    /// A ring of so many bytes.
+    /// A ring of so many bytes, which are too few or too many.
     Capacity(usize),
     /// A tick at the clock's end.
     Tick,

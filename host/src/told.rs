@@ -3,14 +3,14 @@
 use crate::raw::{Released, Said};
 use crate::{Answer, Cause, State};
 
-/// The answer to a byte or a tick, one of 0 to 10, and what came of it.
+/// The answer to a byte or a tick, and what came of it.
 #[derive(Clone, Copy, Debug, PartialEq, Eq)]
 pub struct Told {
-    /// Document 01's answer.
+    /// Document 01's answer, one of 0 to 10.
     pub answer: Answer,
     /// The byte to send back, if a command was decided.
     pub reply: Option<u8>,
-    /// The pulse of module A and that of module B.
+    /// The pulse of module A, channels 1 to 4, and that of module B, channels 5 to 8.
     pub pulses: [Option<Released>; 2],
     /// Why the box tripped, if the call made it trip.
     pub trip: Option<Cause>,

@@ -2,7 +2,8 @@
 
 use super::{Init, Part, Readout, Ring, Setting};
 
-/// The limits that a box keeps to. A profile is good if each of its numbers is in its range.
+/// The limits that a box keeps to. A profile is good if each of its numbers is in its range, as in
+/// [`Profile::LOOSEST`]; the default, all zero, is not.
 #[derive(Clone, Copy, Debug, Default, PartialEq, Eq)]
 #[repr(C)]
 pub struct Profile {
