@@ -62,11 +62,12 @@ impl Courses {
         }
     }
 
-    /// A picture of all, with their names, up to the clock at the end.
-    pub fn drawn(&self, names: &[&str], end: u32) -> String {
-        let panels = names.iter().zip(&self.0);
+    /// A picture of all under their titles, up to the clock at the end, with the lanes of all
+    /// channels or of those that are used.
+    pub fn drawn(&self, titles: &[impl AsRef<str>], end: u32, all_lanes: bool) -> String {
+        let panels = titles.iter().map(AsRef::as_ref).zip(&self.0);
         let panels: Vec<Panel> = panels.map(|(title, events)| Panel { title, events }).collect();
-        picture::svg(&panels, end)
+        picture::svg(&panels, end, all_lanes)
     }
 }
 

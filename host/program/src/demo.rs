@@ -22,6 +22,7 @@ const STRICT: Profile = Profile { watchdog: 150, ..LAX };
 
 const CAPACITY: usize = 4096;
 const NAMES: [&str; 2] = ["lax", "strict"];
+const TITLES: [&str; 2] = ["lax: case 12, watchdog 25.0 ms", "strict: case 12, watchdog 15.0 ms"];
 const TRACES: [&str; 2] = ["demo-lax.trace", "demo-strict.trace"];
 const PICTURE: &str = "demo.svg";
 
@@ -63,7 +64,7 @@ impl Demo {
             let trace = hex::spelt(&guard.trace());
             planned.write(format!("# case 12, {name} unit\n{trace}\n").as_bytes())?;
         }
-        picture.write(courses.drawn(&NAMES, session.end()).as_bytes())?;
+        picture.write(courses.drawn(&TITLES, session.end(), false).as_bytes())?;
         writeln!(out)?;
         writeln!(out, "Written: {PICTURE} (the picture), {} (the traces;", TRACES.join(" and "))?;
         writeln!(out, "`yarrowbell trace {}` tells what is in one).", TRACES[0])?;

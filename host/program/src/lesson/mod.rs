@@ -49,6 +49,10 @@ struct Words {
     /// Draw the wrong one above the proved one
     #[arg(long, value_name = "OUT.svg")]
     plot: Option<PathBuf>,
+
+    /// Draw the lanes of all channels, not of those alone that are listed or pulse
+    #[arg(long, requires = "plot")]
+    all_lanes: bool,
 }
 
 /// What a lesson draws: the wrong one, the proved one, and the clock at the end.
@@ -68,7 +72,8 @@ impl Lesson {
             Of::Limits(_) => limits::teach(out)?,
         };
         if let Some(plot) = plot {
-            plot.write(drawn.courses.drawn(&drawn.titles, drawn.end).as_bytes())?;
+            let picture = drawn.courses.drawn(&drawn.titles, drawn.end, words.all_lanes);
+            plot.write(picture.as_bytes())?;
         }
         Ok(())
     }

@@ -20,6 +20,18 @@ const AFTER: i32 = 8;
 /// No more numbers than this have room.
 const NUMBERS: usize = 11;
 
+/// A unit of time by its name, and how many ticks it has.
+struct Unit {
+    name: &'static str,
+    ticks: u32,
+}
+
+const MILLISECONDS: Unit = Unit { name: "milliseconds (ms)", ticks: 10 };
+const SECONDS: Unit = Unit { name: "seconds (s)", ticks: 10_000 };
+
+/// From this end on, in ticks, milliseconds would have five digits and more.
+const LONG: u32 = 100_000;
+
 pub struct Time {
     end: u32,
     clocks: RangedCoordu32,
@@ -42,6 +54,14 @@ impl Time {
         self.clocks.key_points(NUMBERS)
     }
 
+    fn unit(&self) -> Unit {
+        if self.end < LONG {
+            MILLISECONDS
+        } else {
+            SECONDS
+        }
+    }
+
     /// Rules from the numbers up through an area.
     pub fn draw_grid(&self, area: &Area) -> Drawn {
         let height = area.dim_in_pixel().1 as i32;
@@ -54,36 +74,56 @@ impl Time {
     pub fn draw_axis(&self, area: &Area) -> Drawn {
         area.draw(&filled((LEFT, 0), (RIGHT - LEFT, 1), ink::GREY))?;
         let number = ink::text(ink::PLAIN, HPos::Center, VPos::Top);
+        let unit = self.unit();
         for clock in self.round() {
             let column = self.column(clock);
             area.draw(&filled((column, 0), (1, 6), ink::GREY))?;
-            area.draw(&Text::new(milliseconds(clock), (column, 8), number.clone()))?;
+            area.draw(&Text::new(unit.written(clock), (column, 8), number.clone()))?;
         }
-        area.draw(&Text::new("time in milliseconds (ms)", ((LEFT + RIGHT) / 2, 25), number))
+        let name = format!("time in {}", unit.name);
+        area.draw(&Text::new(name, ((LEFT + RIGHT) / 2, 25), number))
     }
 }
 
-/// A clock in milliseconds, without a fraction that is none.
-fn milliseconds(clock: u32) -> String {
-    let whole = ink::thousands(clock / 10);
-    match clock % 10 {
-        0 => whole,
-        tenths => format!("{whole}.{tenths}"),
+impl Unit {
+    /// A clock in this unit, without a fraction that is none.
+    fn written(&self, clock: u32) -> String {
+        let whole = ink::thousands(clock / self.ticks);
+        let digits = self.ticks.ilog10() as usize;
+        let fraction = format!("{:0digits$}", clock % self.ticks);
+        match fraction.trim_end_matches('0') {
+            "" => whole,
+            fraction => format!("{whole}.{fraction}"),
+        }
     }
 }
 
 #[cfg(test)]
 mod tests {
-    use super::{milliseconds, Time};
+    use super::{Time, MILLISECONDS, SECONDS};
 
     #[test]
     fn round_numbers() {
         let written = |end| -> Vec<String> {
-            Time::until(end).round().into_iter().map(milliseconds).collect()
+            let (time, unit) = (Time::until(end), Time::until(end).unit());
+            time.round().into_iter().map(|clock| unit.written(clock)).collect()
         };
         assert_eq!(written(0), ["0", "0.1"]);
         assert_eq!(written(300), ["0", "5", "10", "15", "20", "25", "30"]);
-        assert_eq!(written(1_000_000).last().map(String::as_str), Some("100,000"));
-        assert_eq!(written(u32::MAX).last().map(String::as_str), Some("400,000,000"));
+        assert_eq!(written(99_999).last().map(String::as_str), Some("9,000"));
+        assert_eq!(written(100_000)[..3], ["0", "1", "2"]);
+        assert_eq!(written(u32::MAX).last().map(String::as_str), Some("400,000"));
+    }
+
+    #[test]
+    fn fractions() {
+        assert_eq!(
+            [0, 5, 10, 12_345].map(|clock| MILLISECONDS.written(clock)),
+            ["0", "0.5", "1", "1,234.5"]
+        );
+        assert_eq!(
+            [0, 5, 15_000, 12_345].map(|clock| SECONDS.written(clock)),
+            ["0", "0.0005", "1.5", "1.2345"]
+        );
     }
 }

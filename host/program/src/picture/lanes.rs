@@ -1,4 +1,4 @@
-//! A lane for each channel, with its pulses as bars.
+//! Lanes of channels, with their pulses as bars.
 
 use super::axis::{Time, LEFT, RIGHT};
 use super::ink::{self, filled, Area, Drawn};
@@ -10,23 +10,29 @@ use plotters::prelude::{FontStyle, Polygon, Text};
 use plotters::style::text_anchor::{HPos, Pos, VPos};
 use plotters::style::Color;
 
-pub const HEIGHT: u32 = CHANNELS as u32 * (BAR + ABOVE + 1) as u32;
-
-const CHANNELS: u8 = 8;
-
 /// The height of a full bar, the space above it, and how broad a bar is at most.
 const BAR: i32 = 46;
 const ABOVE: i32 = 6;
 const BROADEST: i32 = 6;
 
-/// The pulses of each channel that are drawn, by their columns.
+/// The height of so many lanes. Where there is none, words have the room of one.
+pub fn height(lanes: usize) -> u32 {
+    lanes.max(1) as u32 * (BAR + ABOVE + 1) as u32
+}
+
+/// A channel, and its pulses that are drawn, by their columns.
+struct Lane {
+    channel: u8,
+    bars: Vec<(i32, Pulse)>,
+}
+
 pub struct Lanes {
-    lanes: Vec<Vec<(i32, Pulse)>>,
+    lanes: Vec<Lane>,
     pub left_out: bool,
 }
 
 impl Lanes {
-    pub fn of(events: &[Event], time: &Time) -> Lanes {
+    pub fn of(events: &[Event], channels: &[u8], time: &Time) -> Lanes {
         let mut left_out = false;
         let lane = |channel| {
             let pulses = events.iter().filter_map(|event| match event.what {
@@ -35,19 +41,22 @@ impl Lanes {
                 }
                 _ => None,
             });
-            let kept = tallest(pulses.clone());
-            left_out |= kept.len() < pulses.count();
-            kept
+            let bars = tallest(pulses.clone());
+            left_out |= bars.len() < pulses.count();
+            Lane { channel, bars }
         };
-        Lanes { lanes: (1..=CHANNELS).map(lane).collect(), left_out }
+        Lanes { lanes: channels.iter().copied().map(lane).collect(), left_out }
     }
 
     pub fn draw(&self, area: &Area, breadth: i32) -> Drawn {
-        let areas = area.split_evenly((CHANNELS.into(), 1));
-        for ((lane, bars), channel) in areas.iter().zip(&self.lanes).zip(1..) {
+        if self.lanes.is_empty() {
+            return draw_none(area);
+        }
+        let areas = area.split_evenly((self.lanes.len(), 1));
+        for (lane, Lane { channel, bars }) in areas.iter().zip(&self.lanes) {
             let highest = bars.iter().map(|(_, pulse)| pulse.current).max();
             let scale = Scale::for_current(highest.unwrap_or(0));
-            draw_label(lane, channel, &scale)?;
+            draw_label(lane, *channel, &scale)?;
             draw_bars(lane, bars, breadth, &scale)?;
             lane.draw(&filled((LEFT, ABOVE + BAR), (RIGHT - LEFT, 1), ink::RULE))?;
         }
@@ -55,10 +64,16 @@ impl Lanes {
     }
 }
 
+fn draw_none(area: &Area) -> Drawn {
+    let words = "No channel was listed, and no pulse released.";
+    let style = ink::text(ink::PLAIN, HPos::Center, VPos::Center);
+    area.draw(&Text::new(words, ((LEFT + RIGHT) / 2, ABOVE + BAR / 2), style))
+}
+
 /// How broad all bars are drawn, so that neighbours of a lane stay apart where they can.
 pub fn breadth(all: &[Lanes]) -> i32 {
     let lanes = all.iter().flat_map(|panel| &panel.lanes);
-    let steps = lanes.flat_map(|bars| bars.windows(2).map(|two| two[1].0 - two[0].0));
+    let steps = lanes.flat_map(|lane| lane.bars.windows(2).map(|two| two[1].0 - two[0].0));
     steps.min().map_or(BROADEST, |least| (least - 1).clamp(1, BROADEST))
 }
 

@@ -11,7 +11,9 @@ mod panel;
 mod scale;
 mod thinning;
 mod tint;
+pub mod title;
 mod trips;
+mod used;
 
 use crate::course::Event;
 use axis::Time;
@@ -30,11 +32,15 @@ pub struct Panel<'a> {
     pub events: &'a [Event],
 }
 
-/// The panels one above the other, from clock 0 to the end, which is the same for all.
-pub fn svg(panels: &[Panel], end: u32) -> String {
+/// The panels one above the other, from clock 0 to the end, which is the same for all. They have the
+/// same lanes too: those of all channels, or of the channels that are used.
+pub fn svg(panels: &[Panel], end: u32, all_lanes: bool) -> String {
     let time = Time::until(end);
-    let lanes: Vec<Lanes> = panels.iter().map(|panel| Lanes::of(panel.events, &time)).collect();
-    let common = Common { time, rows: Rows::of(panels), breadth: lanes::breadth(&lanes) };
+    let channels = if all_lanes { used::ALL.collect() } else { used::channels(panels) };
+    let lanes = panels.iter().map(|panel| Lanes::of(panel.events, &channels, &time));
+    let lanes: Vec<Lanes> = lanes.collect();
+    let (rows, breadth) = (Rows::of(panels), lanes::breadth(&lanes));
+    let common = Common { time, rows, breadth, lanes: channels.len() };
     let height = TOP + panels.len() as u32 * common.height() + legend::HEIGHT;
     let mut text = String::new();
     let area = SVGBackend::with_string(&mut text, (WIDTH, height)).into_drawing_area();

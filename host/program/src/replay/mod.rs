@@ -6,6 +6,7 @@ use crate::against::Against;
 use crate::course::Courses;
 use crate::failure::{BadInput, Failure, Out};
 use crate::output::Planned;
+use crate::picture::title;
 use crate::session::Session;
 use crate::unit::Unit;
 use crate::{hex, number, profile, story};
@@ -67,6 +68,10 @@ pub struct Replay {
     #[arg(long, value_name = "OUT.svg")]
     plot: Option<PathBuf>,
 
+    /// Draw the lanes of all channels, not of those alone that are listed or pulse
+    #[arg(long, requires = "plot")]
+    all_lanes: bool,
+
     /// End at this clock instead of where the session ends
     #[arg(long, value_name = "CLOCK")]
     #[arg(value_parser = number::clock, allow_negative_numbers = true)]
@@ -118,9 +123,23 @@ impl Replay {
             }
         }
         if let Some(plot) = plot {
-            plot.write(courses.drawn(names, session.end()).as_bytes())?;
+            let picture = courses.drawn(&self.titles(), session.end(), self.all_lanes);
+            plot.write(picture.as_bytes())?;
         }
         Ok(())
+    }
+
+    /// What stands above each unit's panel.
+    fn titles(&self) -> Vec<String> {
+        let title = |name, profile| title::of(name, &self.session, profile);
+        match self.against.as_deref() {
+            None => vec![title(None, self.profile.as_deref())],
+            against => NAMES
+                .into_iter()
+                .zip([self.profile.as_deref(), against])
+                .map(|(name, profile)| title(Some(name), profile))
+                .collect(),
+        }
     }
 
     fn guard(&self, profile: Profile) -> Result<Guard, BadInput> {

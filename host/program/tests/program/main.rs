@@ -7,6 +7,7 @@ mod run;
 #[path = "../../../tests/shared/seeded.rs"]
 mod seeded;
 mod told;
+mod well_formed;
 
 mod bad_sessions;
 mod beside;
@@ -25,6 +26,7 @@ mod round_trips;
 mod sessions;
 mod sheets;
 mod soaking;
+mod titles;
 mod traces;
 mod untraceable;
 mod writings;

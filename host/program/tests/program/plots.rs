@@ -19,7 +19,8 @@ fn one_unit() {
     assert_eq!(folder.line("replay s --profile p.toml --plot p.svg").status, 0);
     let picture = folder.text("p.svg");
     assert!(picture.starts_with("<svg") && picture.ends_with("</svg>\n"));
-    for words in ["unit", "channel 1", "channel 8", "Init 0", "Update 0", "watchdog"] {
+    let title = "s, profile p.toml";
+    for words in [title, "channel 1", "channel 3", "Init 0", "Update 0", "watchdog"] {
         assert_eq!(count(&picture, words), 1, "{words}");
     }
     assert_eq!(folder.names(), ["p.svg", "p.toml", "s"]);
@@ -32,8 +33,46 @@ fn two_units() {
     let folder = folder("two_units");
     assert_eq!(folder.line("replay s --against p.toml --plot p.svg").status, 0);
     let picture = folder.text("p.svg");
-    for (words, times) in [("the first", 1), ("the second", 1), ("channel 1", 2), ("watchdog", 1)] {
+    let (first, second) = ("the first: s, the loosest profile", "the second: s, profile p.toml");
+    for (words, times) in [(first, 1), (second, 1), ("channel 1", 2), ("watchdog", 1)] {
         assert_eq!(count(&picture, words), times, "{words}");
+    }
+}
+
+/// The lanes are those of the list, or of all channels; without a picture there are none.
+#[test]
+fn lanes() {
+    let folder = folder("lanes").with("none", "3 7F\n9 end\n");
+    let lanes = |line: &str| -> Vec<u8> {
+        assert_eq!(folder.line(line).status, 0, "{line}");
+        let picture = folder.text("p.svg");
+        (1..=8).filter(|channel| count(&picture, &format!("channel {channel}")) > 0).collect()
+    };
+    assert_eq!(lanes("replay s --plot p.svg"), [1, 3]);
+    assert_eq!(lanes("replay s --plot p.svg --all-lanes"), [1, 2, 3, 4, 5, 6, 7, 8]);
+    assert_eq!(lanes("lesson ring --plot p.svg"), [1, 3]);
+    assert_eq!(lanes("lesson ring --plot p.svg --all-lanes"), [1, 2, 3, 4, 5, 6, 7, 8]);
+    assert!(lanes("replay none --plot p.svg").is_empty());
+    assert_eq!(count(&folder.text("p.svg"), "No channel was listed, and no pulse released."), 1);
+    for line in ["replay s --all-lanes", "lesson ring --all-lanes"] {
+        let ran = folder.line(line);
+        assert_eq!((ran.status, ran.out.as_str()), (2, ""), "{line}");
+        assert!(ran.err.contains("--plot <OUT.svg>"), "{line}: {}", ran.err);
+    }
+}
+
+/// An end of 10,000 ms is written in seconds.
+#[test]
+fn long_sessions_in_seconds() {
+    let folder = folder("long_sessions_in_seconds");
+    for (until, unit, last) in
+        [("99999", "milliseconds (ms)", "9,000"), ("100000", "seconds (s)", "10")]
+    {
+        assert_eq!(folder.line(&format!("replay s --until {until} --plot p.svg")).status, 0);
+        let picture = folder.text("p.svg");
+        for words in [&format!("time in {unit}"), last] {
+            assert_eq!(count(&picture, words), 1, "{until}: {words}");
+        }
     }
 }
 
