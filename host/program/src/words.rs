@@ -1,4 +1,4 @@
-//! Commands and their answers in words.
+//! Commands, their answers and numbers in words.
 
 use crate::channels;
 use yarrowbell::{Answer, Command, Init, Setting};
@@ -69,6 +69,20 @@ pub fn t2(group_time: u16) -> String {
 /// Tenths of a millisecond in milliseconds.
 pub fn milliseconds(tenths: u32) -> String {
     format!("{}.{}", tenths / 10, tenths % 10)
+}
+
+/// A number with commas.
+pub fn thousands(number: u64) -> String {
+    match number / 1000 {
+        0 => number.to_string(),
+        thousand => format!("{},{:03}", thousands(thousand), number % 1000),
+    }
+}
+
+/// So many of a thing that has a plural in s.
+pub fn counted(count: u64, thing: &str) -> String {
+    let plural = if count == 1 { "" } else { "s" };
+    format!("{} {thing}{plural}", thousands(count))
 }
 
 /// An answer to a command.

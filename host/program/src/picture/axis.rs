@@ -2,6 +2,7 @@
 
 use super::ink::{self, filled, Area, Drawn};
 use super::WIDTH;
+use crate::words;
 use plotters::coord::ranged1d::Ranged;
 use plotters::coord::types::RangedCoordu32;
 use plotters::prelude::Text;
@@ -88,7 +89,7 @@ impl Time {
 impl Unit {
     /// A clock in this unit, without a fraction that is none.
     fn written(&self, clock: u32) -> String {
-        let whole = ink::thousands(clock / self.ticks);
+        let whole = words::thousands((clock / self.ticks).into());
         let digits = self.ticks.ilog10() as usize;
         let fraction = format!("{:0digits$}", clock % self.ticks);
         match fraction.trim_end_matches('0') {

@@ -44,11 +44,3 @@ pub fn length(words: &str, pixels: i32) -> i32 {
     let size = font(pixels, FontStyle::Normal).box_size(words);
     size.expect("a length that is only estimated").0 as i32
 }
-
-/// A number with commas.
-pub fn thousands(number: u32) -> String {
-    match number / 1000 {
-        0 => number.to_string(),
-        thousand => format!("{},{:03}", thousands(thousand), number % 1000),
-    }
-}

@@ -6,6 +6,7 @@ use super::scale::Scale;
 use super::thinning::tallest;
 use super::tint::{self, TINTS};
 use crate::course::{Event, Pulse, What};
+use crate::words;
 use plotters::prelude::{FontStyle, Polygon, Text};
 use plotters::style::text_anchor::{HPos, Pos, VPos};
 use plotters::style::Color;
@@ -89,7 +90,7 @@ fn draw_label(lane: &Area, channel: u8, scale: &Scale) -> Drawn {
     for end in [ABOVE, ABOVE + BAR] {
         lane.draw(&filled((LEFT - 5, end), (5, 1), ink::GREY))?;
     }
-    let written = format!("{} mA", ink::thousands(scale.full));
+    let written = format!("{} mA", words::thousands(scale.full.into()));
     lane.draw(&Text::new(written, (LEFT - 8, ABOVE), full))?;
     lane.draw(&Text::new("0", (LEFT - 8, ABOVE + BAR + 2), none))
 }

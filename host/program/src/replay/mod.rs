@@ -56,6 +56,10 @@ pub struct Replay {
     #[arg(long, value_name = "Q.toml", conflicts_with = "calls")]
     against: Option<PathBuf>,
 
+    /// List all differences of the two units, not the first twenty of each kind alone
+    #[arg(long, requires = "against")]
+    all: bool,
+
     /// Print a CSV line for each call instead of the story
     #[arg(long)]
     calls: bool,
@@ -106,7 +110,7 @@ impl Replay {
         if self.calls {
             sheet::print(&session, &mut units, keep, out)?;
         } else {
-            let mut against = Against::default();
+            let mut against = Against::listing(self.all);
             let each = |step| {
                 against.step(&step);
                 keep(step);

@@ -12,6 +12,7 @@ mod well_formed;
 mod bad_sessions;
 mod beside;
 mod demo;
+mod differences;
 mod full;
 mod help;
 mod lessons;
