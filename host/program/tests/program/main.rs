@@ -27,6 +27,7 @@ mod round_trips;
 mod sessions;
 mod sheets;
 mod soaking;
+mod terminals;
 mod titles;
 mod traces;
 mod untraceable;
