@@ -4,6 +4,7 @@ use crate::words::thousands;
 use console::Term;
 use indicatif::{HumanDuration, ProgressBar, ProgressState, ProgressStyle};
 use std::fmt::Write;
+use std::io::{self, IsTerminal};
 use std::time::Duration;
 
 /// A run that is over sooner shows nothing.
@@ -26,9 +27,14 @@ impl Progress {
         Progress(ProgressBar::new(calls).with_style(style.with_key("line", line)))
     }
 
-    /// For output that fills the terminal by itself, and would be torn by the bar.
-    pub fn hidden() -> Progress {
-        Progress(ProgressBar::hidden())
+    /// The same, for lines on standard output: none if they fill a terminal by themselves, where
+    /// the bar would tear them.
+    pub fn beside_lines(calls: u64) -> Progress {
+        if io::stdout().is_terminal() {
+            Progress(ProgressBar::hidden())
+        } else {
+            Progress::of_calls(calls)
+        }
     }
 
     /// One call more.

@@ -121,9 +121,11 @@ impl Replay {
             }
         }
         if self.readout {
+            // In the sheet it is a comment, so that the CSV stays one.
+            let mark = if self.calls { "# " } else { "" };
             for guard in &guards {
-                let trace = guard.trace();
-                writeln!(out, "{}", hex::spelt(&trace))?;
+                let line = format!("{mark}{}", hex::spelt(&guard.trace()));
+                writeln!(out, "{}", line.trim_end())?;
             }
         }
         if let Some(plot) = plot {

@@ -6,10 +6,11 @@ use crate::progress::Progress;
 use crate::session::Session;
 use crate::unit::{Call, Unit};
 use serde::{Serialize, Serializer};
-use std::io::{self, IsTerminal};
+use std::io;
+use yarrowbell::Cause;
 
-const HEAD: [&str; 8] =
-    ["clock", "call", "byte", "answer", "reply", "channel", "width_us", "current_ma"];
+const HEAD: [&str; 9] =
+    ["clock", "call", "byte", "answer", "reply", "channel", "width_us", "current_ma", "trip"];
 
 #[derive(Serialize)]
 struct Line {
@@ -21,6 +22,8 @@ struct Line {
     channel: Option<u8>,
     width_us: Option<u16>,
     current_ma: Option<u8>,
+    /// The cause's number.
+    trip: Option<u8>,
 }
 
 /// A byte in two upper-case hex digits.
@@ -40,11 +43,7 @@ pub fn print(
     mut each: impl FnMut(Step),
     out: Out,
 ) -> Result<(), Failure> {
-    let progress = if io::stdout().is_terminal() {
-        Progress::hidden()
-    } else {
-        Progress::of_calls(session.number_of_calls())
-    };
+    let progress = Progress::beside_lines(session.number_of_calls());
     let mut sheet = Sheet::begin(out)?;
     play(session, units, &progress, |step| {
         sheet.step(&step)?;
@@ -81,6 +80,7 @@ impl<W: io::Write> Sheet<W> {
             channel: pulse.map(|pulse| pulse.channel),
             width_us: pulse.map(|pulse| pulse.width),
             current_ma: pulse.map(|pulse| pulse.current),
+            trip: told.trip.map(Cause::number),
         };
         self.0.serialize(line).map_err(cannot_print)
     }

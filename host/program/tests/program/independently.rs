@@ -32,13 +32,14 @@ pub fn toml(profile: &Profile) -> String {
     )
 }
 
-/// A call: the clock after it, the byte if it is one, what is said to it, and whether it leaves the
-/// box tripped.
+/// A call: the clock after it, the byte if it is one, what is said to it, whether it leaves the
+/// box tripped, and the number of the cause if it made it trip.
 pub struct Call {
     pub clock: u32,
     pub byte: Option<u8>,
     pub said: Said,
     pub tripped: bool,
+    pub trip: Option<u8>,
 }
 
 impl Call {
@@ -48,6 +49,17 @@ impl Call {
             [Some(a), Some(b)] => panic!("two pulses in one call: {a:?}, {b:?}"),
             [a, b] => a.or(b),
         }
+    }
+
+    /// Of a box that was in this state before.
+    fn of(before: u16, byte: Option<u8>, said: Said, left: &BoxRecord) -> Call {
+        let tripped = left.state == TRIPPED;
+        let trip = match (said.answer, byte) {
+            (9, _) => Some(1),
+            (_, None) if tripped && before != TRIPPED => Some(2),
+            _ => None,
+        };
+        Call { clock: left.clock, byte, said, tripped, trip }
     }
 }
 
@@ -60,16 +72,17 @@ pub fn played(session: &Session, profile: Profile) -> (Vec<Call>, Vec<u8>) {
     let mut sent = session.sent.iter().peekable();
     let mut calls = Vec::new();
     loop {
-        while let Some(&(clock, byte)) = sent.next_if(|(clock, _)| *clock == unit.clock) {
+        while let Some(&(_, byte)) = sent.next_if(|(clock, _)| *clock == unit.clock) {
+            let before = unit.state;
             let said = unit.byte(&mut ring, at, byte);
-            calls.push(Call { clock, byte: Some(byte), said, tripped: unit.state == TRIPPED });
+            calls.push(Call::of(before, Some(byte), said, &unit));
         }
         if unit.clock == session.end {
             break;
         }
+        let before = unit.state;
         let said = unit.tick(&mut ring, at);
-        let tripped = unit.state == TRIPPED;
-        calls.push(Call { clock: unit.clock, byte: None, said, tripped });
+        calls.push(Call::of(before, None, said, &unit));
     }
     let mut out = vec![0; session.capacity];
     let used = unit.read_out(&ring, at, &mut out).expect("it has room");

@@ -53,7 +53,7 @@ fn case_13_the_readout() {
     let readout =
         "02 64 00 00 00 01 C8 00 28 02 73 00 00 00 03 2C 01 1E 02 91 00 00 00 03 2C 01 1E";
     assert_eq!(last("--capacity 32 --until 145 --readout"), readout);
-    assert_eq!(last("--capacity 32 --until 145 --readout --calls"), readout);
+    assert_eq!(last("--capacity 32 --until 145 --readout --calls"), format!("# {readout}"));
 }
 
 /// Update in idle; a Single of channel 1, 200 µs, 40 mA twice in one clock.
@@ -62,11 +62,11 @@ fn cases_14_and_15_by_their_calls() {
     let folder = Folder::new("cases_14_and_15")
         .with("14.session", "0 BB 01 48 28\n")
         .with("15.session", "0 F0 01 48 28 F0 01 48 28\n");
-    let head = "clock,call,byte,answer,reply,channel,width_us,current_ma\n";
-    let calls = "0,byte,BB,6,40,,,\n0,byte,01,2,,,,\n0,byte,48,2,,,,\n0,byte,28,2,,,,\n";
+    let head = "clock,call,byte,answer,reply,channel,width_us,current_ma,trip\n";
+    let calls = "0,byte,BB,6,40,,,,\n0,byte,01,2,,,,,\n0,byte,48,2,,,,,\n0,byte,28,2,,,,,\n";
     prints(&folder, "replay 14.session --calls", &format!("{head}{calls}"));
-    let open = "0,byte,F0,1,,,,\n0,byte,01,1,,,,\n0,byte,48,1,,,,\n";
-    let (taken, refused) = ("0,byte,28,0,C1,1,200,40\n", "0,byte,28,8,C0,,,\n");
+    let open = "0,byte,F0,1,,,,,\n0,byte,01,1,,,,,\n0,byte,48,1,,,,,\n";
+    let (taken, refused) = ("0,byte,28,0,C1,1,200,40,\n", "0,byte,28,8,C0,,,,\n");
     let calls = format!("{head}{open}{taken}{open}{refused}");
     prints(&folder, "replay 15.session --calls", &calls);
 }
@@ -136,7 +136,7 @@ unit: idle at clock 0; commands 0, pulses 0, trips 0
 ";
         prints(&folder, &format!("replay {file}"), story);
     }
-    let head = "clock,call,byte,answer,reply,channel,width_us,current_ma\n\n";
+    let head = "clock,call,byte,answer,reply,channel,width_us,current_ma,trip\n#\n";
     prints(&folder, "replay empty --calls --readout", head);
 }
 
