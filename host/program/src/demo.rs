@@ -56,6 +56,7 @@ impl Demo {
         let each = |step| {
             against.step(&step);
             courses.add(step);
+            Ok(())
         };
         story::tell(&session, &NAMES, &mut [lax, strict], each, out)?;
         against.tell(NAMES, &LAX, &STRICT, out)?;

@@ -16,7 +16,7 @@ pub enum Failure {
     #[error("{0}")]
     Difference(#[from] soak::Failure),
     #[error("yarrowbell: cannot print: {0}")]
-    Print(#[from] io::Error),
+    Print(io::Error),
 }
 
 /// Where the input is bad, and what is wrong there.
@@ -39,6 +39,22 @@ impl BadInput {
 
     pub fn argument(name: &str, what: impl Display) -> BadInput {
         BadInput { place: name.to_owned(), what: what.to_string() }
+    }
+}
+
+/// A file that cannot be written says so in the error; any other is one of the program's own output.
+impl From<io::Error> for Failure {
+    fn from(error: io::Error) -> Failure {
+        error.downcast().map_or_else(Failure::Print, Failure::Input)
+    }
+}
+
+impl From<csv::Error> for Failure {
+    fn from(error: csv::Error) -> Failure {
+        Failure::from(match error.into_kind() {
+            csv::ErrorKind::Io(error) => error,
+            other => io::Error::other(format!("{other:?}")),
+        })
     }
 }
 

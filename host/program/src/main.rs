@@ -12,6 +12,7 @@ mod failure;
 mod field;
 mod hex;
 mod input;
+mod json;
 mod lesson;
 mod number;
 mod output;

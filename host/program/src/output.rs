@@ -2,7 +2,7 @@
 
 use crate::failure::BadInput;
 use std::fs::{self, File};
-use std::io::Write;
+use std::io::{self, Write};
 use std::path::{Path, PathBuf};
 
 /// A file that will be written. Until then what stood at its path stays there; the new one lies
@@ -28,10 +28,29 @@ impl Planned {
     }
 
     pub fn write(mut self, bytes: &[u8]) -> Result<(), BadInput> {
-        self.file
-            .write_all(bytes)
-            .and_then(|()| fs::rename(&self.beside, &self.path))
-            .map_err(|error| BadInput::file(&self.path, format!("cannot be written: {error}")))
+        self.file.write_all(bytes).map_err(|error| self.cannot(error))?;
+        self.finish()
+    }
+
+    /// Puts what was written in its place.
+    pub fn finish(self) -> Result<(), BadInput> {
+        fs::rename(&self.beside, &self.path).map_err(|error| self.cannot(error))
+    }
+
+    fn cannot(&self, error: io::Error) -> BadInput {
+        BadInput::file(&self.path, format!("cannot be written: {error}"))
+    }
+}
+
+/// An error has the failure in it that it comes to, a `BadInput` with the path.
+impl Write for Planned {
+    fn write(&mut self, bytes: &[u8]) -> io::Result<usize> {
+        self.file.write(bytes).map_err(|error| io::Error::new(error.kind(), self.cannot(error)))
+    }
+
+    /// Nothing waits here.
+    fn flush(&mut self) -> io::Result<()> {
+        Ok(())
     }
 }
 

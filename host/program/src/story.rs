@@ -15,23 +15,24 @@ const COLUMN: usize = 42;
 /// How much is printed at once: the bar of a long run is taken away for it, and put back.
 const AT_ONCE: usize = 4096;
 
-/// Plays a session on units, which have names, and tells what they do. Each step is handed on.
+/// Plays a session on units, which have names, and tells what they do. Each step is handed on. Hands
+/// back what there is to say of each unit at the end.
 pub fn tell(
     session: &Session,
     names: &[&str],
     units: &mut [&mut dyn Unit],
-    mut each: impl FnMut(Step),
+    mut each: impl FnMut(Step) -> Result<(), Failure>,
     out: Out,
-) -> Result<(), Failure> {
+) -> Result<Vec<Option<Event>>, Failure> {
     let progress = Progress::of_calls(session.number_of_calls());
     let mut story = Story::begin(names, out)?;
-    play(session, units, &progress, |step| {
+    let ends = play(session, units, &progress, |step| {
         story.step(&step, &progress, out)?;
-        each(step);
-        Ok(())
+        each(step)
     })?;
     drop(progress);
-    story.end(units, out)
+    story.end(units, out)?;
+    Ok(ends)
 }
 
 /// The units by their names, what they have done so far, and what is yet to be printed of it.
@@ -42,10 +43,10 @@ struct Story<'a> {
 }
 
 #[derive(Clone, Default)]
-struct Totals {
-    commands: usize,
-    pulses: usize,
-    trips: usize,
+pub struct Totals {
+    pub commands: usize,
+    pub pulses: usize,
+    pub trips: usize,
 }
 
 impl Story<'_> {
@@ -83,7 +84,7 @@ impl Story<'_> {
 }
 
 impl Totals {
-    fn add(&mut self, events: &[Event]) {
+    pub fn add(&mut self, events: &[Event]) {
         for event in events {
             match event.what {
                 What::Decided(_) => self.commands += 1,

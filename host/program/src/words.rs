@@ -87,9 +87,13 @@ pub fn counted(count: u64, thing: &str) -> String {
 
 /// An answer to a command.
 pub fn answer(answer: Answer) -> String {
-    let words = match answer {
+    format!("answer {}: {}", answer.number(), meaning(answer))
+}
+
+/// What an answer to a command says.
+pub fn meaning(answer: Answer) -> String {
+    match answer {
         Answer::Done => "command carried out".to_owned(),
         other => other.to_string(),
-    };
-    format!("answer {}: {words}", answer.number())
+    }
 }

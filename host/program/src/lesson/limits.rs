@@ -97,6 +97,7 @@ fn beside_lax(
     let each = |step| {
         against.step(&step);
         courses.add(step);
+        Ok(())
     };
     story::tell(session, &names, &mut [&mut guard(LAX), strict], each, out)?;
     against.tell(names, &LAX, &STRICT, out)?;

@@ -124,11 +124,15 @@ pub fn teach(out: Out) -> Result<Drawn, Failure> {
             Call::Byte(byte) => calls::byte_in_place(&mut lent, memory, RING, byte),
             Call::Tick => calls::tick_in_place(&mut lent, memory, RING),
         };
-        assert_eq!(said.answer, answer.number().into(), "the ring's size changes no answer");
+        assert_eq!(said.answer, u16::from(answer.number()), "the ring's size changes no answer");
     });
     let mut courses = Courses::of(2);
     let units: &mut [&mut dyn Unit] = &mut [&mut wrong, &mut proved];
-    story::tell(&session, &["wrong", "proved"], units, |step| courses.add(step), out)?;
+    let each = |step| {
+        courses.add(step);
+        Ok(())
+    };
+    story::tell(&session, &["wrong", "proved"], units, each, out)?;
     writeln!(out, "\nThe memory around the ring's end, and at its front:\n")?;
     writeln!(out, "byte                27 28 29 30 31 | 32 33 34 35    0  1  2  3")?;
     for (name, seen) in [("wrong", wrong.seen), ("proved", proved.seen)] {

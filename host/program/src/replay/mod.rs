@@ -1,5 +1,7 @@
 //! `yarrowbell replay`
 
+mod events;
+mod line;
 mod sheet;
 
 use crate::against::Against;
@@ -7,15 +9,18 @@ use crate::course::Courses;
 use crate::failure::{BadInput, Failure, Out};
 use crate::output::Planned;
 use crate::picture::title;
+use crate::play::Step;
 use crate::session::Session;
 use crate::unit::Unit;
 use crate::{hex, number, profile, story};
 use clap::Args;
+use events::Events;
 use std::path::PathBuf;
 use yarrowbell::{Guard, Profile};
 
-/// The names of two units beside each other.
+/// The names of two units beside each other, in words and in the events.
 const NAMES: [&str; 2] = ["the first", "the second"];
+const SHORT: [&str; 2] = ["first", "second"];
 
 /// Play a session file on the proved unit and tell what it did
 ///
@@ -36,8 +41,9 @@ Example of a session, document 01's case 12:
   5 BB 01 48 28 22 2C 1E      # Update of their settings
   300 end
 
-Example:
-  yarrowbell replay case12.session --profile lax.toml --against strict.toml --plot case12.svg")]
+Examples:
+  yarrowbell replay case12.session --profile lax.toml --against strict.toml --plot case12.svg
+  yarrowbell replay case12.session --profile lax.toml --events case12.csv")]
 pub struct Replay {
     /// The session file
     #[arg(value_name = "SESSION")]
@@ -64,7 +70,17 @@ pub struct Replay {
     #[arg(long)]
     calls: bool,
 
-    /// Print the ring's bytes in hex in a last line, for each unit
+    /// Print the events as JSON, one object in a line, instead of the story
+    #[arg(long, conflicts_with = "calls")]
+    json: bool,
+
+    /// Write a CSV line for each event: command, stray byte, dropped or unfinished frame, pulse,
+    /// trip, and the end
+    #[arg(long, value_name = "OUT.csv")]
+    events: Option<PathBuf>,
+
+    /// Print the ring's bytes in hex in a last line, for each unit: a comment of the CSV, in JSON
+    /// and in the events a value of the end
     #[arg(long)]
     readout: bool,
 
@@ -95,32 +111,42 @@ impl Replay {
         let guards = [first].into_iter().chain(second).map(|profile| self.guard(profile));
         let mut guards = guards.collect::<Result<Vec<Guard>, BadInput>>()?;
         let plot = self.plot.as_deref().map(Planned::new).transpose()?;
-        let names: &[&str] = if guards.len() == 1 { &["unit"] } else { &NAMES };
+        let file = self.events.as_deref().map(Planned::new).transpose()?;
+        let (names, short): (&[&str], &[&str]) =
+            if guards.len() == 1 { (&["unit"], &["unit"]) } else { (&NAMES, &SHORT) };
 
         let mut courses = Courses::of(guards.len());
-        let mut keep = |step| {
+        let mut against = Against::listing(self.all);
+        let mut file = file.map(|file| Events::in_file(short, file));
+        let each = |step: Step| {
+            if let Some(events) = &mut file {
+                events.step(&step)?;
+            }
+            against.step(&step);
             if plot.is_some() {
                 courses.add(step);
             }
+            Ok(())
         };
         let mut units: Vec<&mut dyn Unit> = Vec::new();
         for guard in &mut guards {
             units.push(guard);
         }
-        if self.calls {
-            sheet::print(&session, &mut units, keep, out)?;
+        let ends = if self.calls {
+            sheet::print(&session, &mut units, each, out)?
+        } else if self.json {
+            events::print(&session, short, &mut units, self.readout, each, out)?
         } else {
-            let mut against = Against::listing(self.all);
-            let each = |step| {
-                against.step(&step);
-                keep(step);
-            };
-            story::tell(&session, names, &mut units, each, out)?;
-            if let Some(second) = &second {
-                against.tell(NAMES, &first, second, out)?;
-            }
+            story::tell(&session, names, &mut units, each, out)?
+        };
+        if let Some(mut events) = file {
+            events.end(&ends, &units, self.readout)?;
+            events.finish()?;
         }
-        if self.readout {
+        if let (false, Some(second)) = (self.json, &second) {
+            against.tell(NAMES, &first, second, out)?;
+        }
+        if self.readout && !self.json {
             // In the sheet it is a comment, so that the CSV stays one.
             let mark = if self.calls { "# " } else { "" };
             for guard in &guards {

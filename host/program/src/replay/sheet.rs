@@ -1,5 +1,6 @@
 //! The calls of a session as lines of CSV.
 
+use crate::course::Event;
 use crate::failure::{Failure, Out};
 use crate::play::{play, Step};
 use crate::progress::Progress;
@@ -36,21 +37,21 @@ impl Serialize for Hex {
 }
 
 /// Plays a session on the first of the units, and prints a line for each call. Each step is handed
-/// on.
+/// on. Hands back what there is to say of each unit at the end.
 pub fn print(
     session: &Session,
     units: &mut [&mut dyn Unit],
-    mut each: impl FnMut(Step),
+    mut each: impl FnMut(Step) -> Result<(), Failure>,
     out: Out,
-) -> Result<(), Failure> {
+) -> Result<Vec<Option<Event>>, Failure> {
     let progress = Progress::beside_lines(session.number_of_calls());
     let mut sheet = Sheet::begin(out)?;
-    play(session, units, &progress, |step| {
+    let ends = play(session, units, &progress, |step| {
         sheet.step(&step)?;
-        each(step);
-        Ok(())
+        each(step)
     })?;
-    sheet.end()
+    sheet.end()?;
+    Ok(ends)
 }
 
 struct Sheet<W: io::Write>(csv::Writer<W>);
@@ -58,7 +59,7 @@ struct Sheet<W: io::Write>(csv::Writer<W>);
 impl<W: io::Write> Sheet<W> {
     fn begin(out: W) -> Result<Sheet<W>, Failure> {
         let mut lines = csv::WriterBuilder::new().has_headers(false).from_writer(out);
-        lines.write_record(HEAD).map_err(cannot_print)?;
+        lines.write_record(HEAD)?;
         Ok(Sheet(lines))
     }
 
@@ -82,17 +83,10 @@ impl<W: io::Write> Sheet<W> {
             current_ma: pulse.map(|pulse| pulse.current),
             trip: told.trip.map(Cause::number),
         };
-        self.0.serialize(line).map_err(cannot_print)
+        Ok(self.0.serialize(line)?)
     }
 
     fn end(mut self) -> Result<(), Failure> {
         Ok(self.0.flush()?)
     }
-}
-
-fn cannot_print(error: csv::Error) -> Failure {
-    Failure::Print(match error.into_kind() {
-        csv::ErrorKind::Io(error) => error,
-        other => io::Error::other(format!("{other:?}")),
-    })
 }

@@ -5,6 +5,9 @@ use independent::Part;
 use soak::sessions::{self, Session};
 use yarrowbell::Profile;
 
+/// The states by their numbers.
+const STATES: [&str; 3] = ["idle", "running", "tripped"];
+
 /// The number of the tripped state.
 const TRIPPED: u16 = 2;
 
@@ -32,12 +35,13 @@ pub fn toml(profile: &Profile) -> String {
     )
 }
 
-/// A call: the clock after it, the byte if it is one, what is said to it, whether it leaves the
-/// box tripped, and the number of the cause if it made it trip.
+/// A call: the clock after it, the byte if it is one, what is said to it, the state that it leaves,
+/// whether that is tripped, and the number of the cause if it made the box trip.
 pub struct Call {
     pub clock: u32,
     pub byte: Option<u8>,
     pub said: Said,
+    pub state: &'static str,
     pub tripped: bool,
     pub trip: Option<u8>,
 }
@@ -53,13 +57,13 @@ impl Call {
 
     /// Of a box that was in this state before.
     fn of(before: u16, byte: Option<u8>, said: Said, left: &BoxRecord) -> Call {
-        let tripped = left.state == TRIPPED;
+        let (state, tripped) = (STATES[usize::from(left.state)], left.state == TRIPPED);
         let trip = match (said.answer, byte) {
             (9, _) => Some(1),
             (_, None) if tripped && before != TRIPPED => Some(2),
             _ => None,
         };
-        Call { clock: left.clock, byte, said, tripped, trip }
+        Call { clock: left.clock, byte, said, state, tripped, trip }
     }
 }
 

@@ -6,6 +6,7 @@ mod random;
 mod run;
 #[path = "../../../tests/shared/seeded.rs"]
 mod seeded;
+mod table;
 mod told;
 mod well_formed;
 
@@ -13,6 +14,7 @@ mod bad_sessions;
 mod beside;
 mod demo;
 mod differences;
+mod events;
 mod full;
 mod help;
 mod lessons;
@@ -21,6 +23,7 @@ mod pages;
 mod papers;
 mod pipes;
 mod plots;
+mod random_events;
 mod readings;
 mod refusals;
 mod round_trips;

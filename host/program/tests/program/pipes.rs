@@ -24,7 +24,7 @@ fn closed_before() {
 fn closed_after_a_line() {
     let list = "0 88 01 20 00 30 12\n5 BB 01 48 28 22 2C 1E\n100000 end\n";
     let folder = Folder::new("closed_after_a_line").with("s", list);
-    for words in [&["replay", "s", "--calls"][..], &["replay", "s"]] {
+    for words in [&["replay", "s", "--calls"][..], &["replay", "s"], &["replay", "s", "--json"]] {
         let mut child = Command::new(env!("CARGO_BIN_EXE_yarrowbell"))
             .current_dir(folder.path())
             .args(words)

@@ -1,5 +1,6 @@
 //! Running the program, and what it does with its output and its exit status.
 
+use std::ffi::OsStr;
 use std::path::Path;
 use std::process::{Command, Stdio};
 
@@ -15,7 +16,7 @@ pub fn words(words: &[&str]) -> Ran {
 }
 
 /// Runs the program in a folder.
-pub fn words_in(folder: &Path, words: &[&str]) -> Ran {
+pub fn words_in<W: AsRef<OsStr>>(folder: &Path, words: &[W]) -> Ran {
     let output = Command::new(env!("CARGO_BIN_EXE_yarrowbell"))
         .current_dir(folder)
         .args(words)
