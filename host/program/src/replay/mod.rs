@@ -139,20 +139,17 @@ impl Replay {
         } else {
             story::tell(&session, names, &mut units, each, out)?
         };
-        if let Some(mut events) = file {
+        if let Some(events) = &mut file {
             events.end(&ends, &units, self.readout)?;
-            events.finish()?;
         }
-        if let (false, Some(second)) = (self.json, &second) {
-            against.tell(NAMES, &first, second, out)?;
-        }
-        if self.readout && !self.json {
-            // In the sheet it is a comment, so that the CSV stays one.
-            let mark = if self.calls { "# " } else { "" };
-            for guard in &guards {
-                let line = format!("{mark}{}", hex::spelt(&guard.trace()));
-                writeln!(out, "{}", line.trim_end())?;
+        if !self.json {
+            if let Some(second) = &second {
+                against.tell(NAMES, &first, second, out)?;
             }
+            self.print_readouts(&guards, out)?;
+        }
+        if let Some(events) = file {
+            events.finish()?;
         }
         if let Some(plot) = plot {
             let picture = courses.drawn(&self.titles(), session.end(), self.all_lanes);
@@ -172,6 +169,16 @@ impl Replay {
                 .map(|(name, profile)| title(Some(name), profile))
                 .collect(),
         }
+    }
+
+    /// The rings' bytes, if they are asked for: in the sheet as a comment, so that the CSV stays one.
+    fn print_readouts(&self, guards: &[Guard], out: Out) -> Result<(), Failure> {
+        let mark = if self.calls { "# " } else { "" };
+        for guard in guards.iter().filter(|_| self.readout) {
+            let line = format!("{mark}{}", hex::spelt(&guard.trace()));
+            writeln!(out, "{}", line.trim_end())?;
+        }
+        Ok(())
     }
 
     fn guard(&self, profile: Profile) -> Result<Guard, BadInput> {
