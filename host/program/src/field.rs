@@ -47,7 +47,17 @@ impl Field {
     /// Document 01's rule, if the value is not good. The library decides by the same rules; this
     /// finds the value at fault.
     pub fn broken(self, value: u16) -> Option<&'static str> {
-        let (good, rule) = match self {
+        self.judged(value).and_then(|(good, rule)| (!good).then_some(rule))
+    }
+
+    /// Document 01's rule for its values, if it has one.
+    pub fn rule(self) -> Option<&'static str> {
+        self.judged(0).map(|(_, rule)| rule)
+    }
+
+    /// Whether a value is good, and the rule for that.
+    fn judged(self, value: u16) -> Option<(bool, &'static str)> {
+        Some(match self {
             NFactor => (value <= 7, "N_Factor is 0 to 7"),
             ChannelStim => (value != 0, "a list has at least one channel"),
             GroupTime => {
@@ -63,8 +73,7 @@ impl Field {
             }
             PulseCurrent => (value <= 127, "a current is 0 to 127 mA"),
             Ident | Check | ChannelLf | DontCare => return None,
-        };
-        (!good).then_some(rule)
+        })
     }
 
     /// What stands behind the number: its unit or its meaning.

@@ -5,6 +5,7 @@
 
 mod against;
 mod bench;
+mod bytes;
 mod channels;
 mod course;
 mod demo;
@@ -15,6 +16,7 @@ mod input;
 mod json;
 mod lesson;
 mod number;
+mod order;
 mod output;
 mod picture;
 mod play;

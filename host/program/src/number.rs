@@ -1,42 +1,61 @@
-//! Whole numbers as words of the command line. Whether they are good values is the library's to say.
+//! Whole numbers as words of the command line. One that its type can hold is the library's to judge;
+//! of any other the same range is said.
 
-use std::num::NonZeroU8;
+use crate::channels;
+use crate::field::Field;
+use std::ops::RangeInclusive;
 use std::str::FromStr;
 use thiserror::Error;
+use yarrowbell::Guard;
 
 #[derive(Debug, Error)]
-#[error("not a whole number from {least} to {greatest}")]
-pub struct NotNumber {
-    least: u64,
-    greatest: u64,
-}
-
-pub fn byte(word: &str) -> Result<u8, NotNumber> {
-    parsed(word, 0, u8::MAX.into())
-}
-
-pub fn two_bytes(word: &str) -> Result<u16, NotNumber> {
-    parsed(word, 0, u16::MAX.into())
-}
-
-pub fn counted_from_1(word: &str) -> Result<NonZeroU8, NotNumber> {
-    parsed(word, 1, u8::MAX.into())
+pub enum NotNumber {
+    #[error("not a whole number from {least} to {most}")]
+    Outside { least: u64, most: u64 },
+    #[error("not a good whole number: {0}")]
+    Broken(&'static str),
 }
 
 pub fn clock(word: &str) -> Result<u32, NotNumber> {
-    parsed(word, 0, u32::MAX.into())
+    whole(word).ok_or(outside(0..=u32::MAX.into()))
 }
 
 pub fn count(word: &str) -> Result<u64, NotNumber> {
-    parsed(word, 0, u64::MAX)
+    whole(word).ok_or(outside(0..=u64::MAX))
 }
 
-pub fn size(word: &str) -> Result<usize, NotNumber> {
-    parsed(word, 0, usize::MAX as u64)
+/// A ring's capacity.
+pub fn capacity(word: &str) -> Result<usize, NotNumber> {
+    let (least, most) = Guard::CAPACITIES.into_inner();
+    whole(word).ok_or(outside(least as u64..=most as u64))
 }
 
-/// The bounds are those of the type. No sign is taken, not even a plus.
-fn parsed<N: FromStr>(word: &str, least: u64, greatest: u64) -> Result<N, NotNumber> {
-    let digits = word.bytes().all(|byte| byte.is_ascii_digit());
-    word.parse().ok().filter(|_| digits).ok_or(NotNumber { least, greatest })
+/// Where the records of a ring begin: a byte of its part.
+pub fn start(word: &str) -> Result<usize, NotNumber> {
+    whole(word).ok_or(outside(0..=*Guard::CAPACITIES.end() as u64 - 1))
+}
+
+/// How many bytes the records of a ring have.
+pub fn used(word: &str) -> Result<usize, NotNumber> {
+    whole(word).ok_or(outside(0..=*Guard::CAPACITIES.end() as u64))
+}
+
+/// A number of listed channels.
+pub fn listed(word: &str) -> Result<u8, NotNumber> {
+    whole(word).ok_or(NotNumber::Broken(channels::RULE))
+}
+
+/// The value of a field that has a rule.
+pub fn of<N: FromStr + 'static>(field: Field) -> impl Fn(&str) -> Result<N, NotNumber> + Clone {
+    let rule = field.rule().expect("the field has a rule");
+    move |word| whole(word).ok_or(NotNumber::Broken(rule))
+}
+
+/// No sign is taken, not even a plus.
+pub fn whole<N: FromStr>(word: &str) -> Option<N> {
+    word.parse().ok().filter(|_| word.bytes().all(|byte| byte.is_ascii_digit()))
+}
+
+fn outside(range: RangeInclusive<u64>) -> NotNumber {
+    NotNumber::Outside { least: *range.start(), most: *range.end() }
 }

@@ -1,7 +1,7 @@
 //! Profiles in TOML files.
 
 use crate::failure::BadInput;
-use crate::input;
+use crate::input::Source;
 use serde::de::{DeserializeOwned, IgnoredAny, MapAccess, Visitor};
 use serde::{Deserialize, Deserializer};
 use std::fmt;
@@ -50,9 +50,9 @@ impl<'de> Visitor<'de> for KeysVisitor {
 }
 
 /// The loosest profile if no file is named.
-pub fn of_file(file: Option<&Path>) -> Result<Profile, BadInput> {
+pub fn of_file(file: Option<&Source>) -> Result<Profile, BadInput> {
     match file {
-        Some(file) => Reader { file, text: &input::text(file)? }.profile(),
+        Some(file) => Reader { file: file.name(), text: &file.text()? }.profile(),
         None => Ok(Profile::LOOSEST),
     }
 }

@@ -2,8 +2,10 @@
 
 use crate::failure::BadInput;
 use crate::hex::{self, NotBytes};
+use crate::input::{self, Source};
+use crate::number;
+use crate::order::{Order, OutOfOrder};
 use crate::unit::Call;
-use crate::{input, number};
 use std::path::Path;
 use thiserror::Error;
 
@@ -18,56 +20,45 @@ pub struct Session {
 enum NotLine {
     #[error("{0:?} is no clock, a whole number from 0 to 4294967295")]
     Clock(String),
-    #[error("the clock goes back, from {from} to {to}")]
-    Back { from: u32, to: u32 },
     #[error("a clock alone: bytes in hex follow it, or the word end")]
     Alone,
-    #[error("{0:?} behind the word end")]
-    BehindEnd(String),
-    #[error("a line after the end")]
-    AfterEnd,
+    #[error(transparent)]
+    Order(#[from] OutOfOrder),
     #[error(transparent)]
     Bytes(#[from] NotBytes),
 }
 
 impl Session {
-    pub fn of_file(file: &Path) -> Result<Session, BadInput> {
-        Session::of_text(&input::text(file)?, file)
+    pub fn of_file(file: &Source) -> Result<Session, BadInput> {
+        Session::of_text(&file.text()?, file.name())
     }
 
     /// The session in a text, of which errors say that it is the file's.
     pub fn of_text(text: &str, file: &Path) -> Result<Session, BadInput> {
         let mut session = Session::default();
-        let mut ended = false;
+        let mut order = Order::default();
         for (line, words) in input::lines(text) {
             if let [clock, rest @ ..] = &words[..] {
-                ended = session
-                    .take(clock, rest, ended)
+                session
+                    .take(clock, rest, &mut order)
                     .map_err(|wrong| BadInput::line(file, line, wrong))?;
             }
         }
+        session.end = order.last();
         Ok(session)
     }
 
-    /// Takes a line, and hands back whether it is the last.
-    fn take(&mut self, clock: &str, rest: &[&str], ended: bool) -> Result<bool, NotLine> {
-        if ended {
-            return Err(NotLine::AfterEnd);
-        }
+    /// Takes a line.
+    fn take(&mut self, clock: &str, rest: &[&str], order: &mut Order) -> Result<(), NotLine> {
+        order.line()?;
         let to = number::clock(clock).map_err(|_| NotLine::Clock(clock.to_owned()))?;
-        if to < self.end {
-            return Err(NotLine::Back { from: self.end, to });
-        }
-        self.end = to;
+        order.at(to)?;
         match rest {
             [] => Err(NotLine::Alone),
-            ["end"] => Ok(true),
-            ["end", word, ..] => Err(NotLine::BehindEnd((*word).to_owned())),
+            ["end", behind @ ..] => Ok(order.end(behind)?),
             words => {
-                for word in words {
-                    self.sent.extend(hex::parsed(word)?.0.into_iter().map(|byte| (to, byte)));
-                }
-                Ok(false)
+                self.sent.extend(hex::parsed(words)?.into_iter().map(|byte| (to, byte)));
+                Ok(())
             }
         }
     }

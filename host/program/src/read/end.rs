@@ -2,7 +2,7 @@
 
 use super::check;
 use super::given::{Given, Value};
-use crate::hex;
+use crate::{channels, hex};
 use yarrowbell::{reply, Answer, Frame, NotRead};
 
 pub fn of(
@@ -22,7 +22,7 @@ pub fn of(
     }
     let listable = (1..=8).contains(&count);
     if !listable {
-        lines.push(format!("--channels {count} is not good: a list has 1 to 8 channels"));
+        lines.push(format!("--channels {count} is not good: {}", channels::RULE));
     }
     let ident = given.bytes[0] >> 5 & 3;
     let (used, answer, words) = match *read {

@@ -7,10 +7,12 @@ mod given;
 mod layout;
 mod rows;
 
-use crate::failure::{Failure, Out};
-use crate::{hex, number, words};
+use crate::bytes::Bytes;
+use crate::failure::{BadInput, Failure, Out};
+use crate::{number, words};
 use clap::Args;
 use given::Given;
+use std::ffi::OsString;
 
 /// Read one frame: its bits, its fields, its check, and the answer to it
 ///
@@ -23,23 +25,26 @@ Without --channels the bytes tell how many channels an Update lists, 1 to 8: thr
 up to the next byte with bit 7 set or to the end. If they are no multiple of three, the last channel
 is taken as listed, with bytes missing.
 
+Bytes in hex may have 0x before them, and spaces, a comma or a colon between them. Standard input is
+hex too, with # before a comment, or the bytes themselves if it is no text.
+
 Examples:
   yarrowbell read E2 21 48 78
   yarrowbell read BB014828222C1E --channels 2")]
 pub struct Read {
-    /// The frame's bytes in hex, with or without spaces; those after the frame are not used
-    #[arg(value_name = "HEX", required = true, value_parser = hex::parsed)]
-    words: Vec<hex::Bytes>,
+    /// The frame's bytes in hex, or - for standard input; those after the frame are not used
+    #[arg(value_name = "HEX", required = true, value_parser = clap::value_parser!(OsString))]
+    words: Vec<OsString>,
 
     /// How many channels are listed, 1 to 8: an Update's length depends on it
     #[arg(long, value_name = "N")]
-    #[arg(value_parser = number::byte, allow_negative_numbers = true)]
+    #[arg(value_parser = number::listed, allow_negative_numbers = true)]
     channels: Option<u8>,
 }
 
 impl Read {
     pub fn run(self, out: Out) -> Result<(), Failure> {
-        let bytes: Vec<u8> = self.words.into_iter().flat_map(|word| word.0).collect();
+        let bytes = self.bytes()?;
         let count = self.channels.map_or_else(|| told_by(&bytes), usize::from);
         let read = yarrowbell::read(&bytes, count);
         let given = Given::new(&bytes, count);
@@ -53,6 +58,15 @@ impl Read {
         let texts = sections.iter().filter(|lines| !lines.is_empty());
         let texts: Vec<String> = texts.map(|lines| lines.join("\n")).collect();
         Ok(writeln!(out, "{}", texts.join("\n\n"))?)
+    }
+
+    /// There is at least one.
+    fn bytes(&self) -> Result<Vec<u8>, BadInput> {
+        let given = Bytes::of_words(&self.words)?;
+        if given.all.is_empty() {
+            return Err(given.fault(None, "no bytes"));
+        }
+        Ok(given.all)
     }
 }
 

@@ -7,6 +7,7 @@ mod sheet;
 use crate::against::Against;
 use crate::course::Courses;
 use crate::failure::{BadInput, Failure, Out};
+use crate::input::{self, Source};
 use crate::output::Planned;
 use crate::picture::title;
 use crate::play::Step;
@@ -45,22 +46,22 @@ Examples:
   yarrowbell replay case12.session --profile lax.toml --against strict.toml --plot case12.svg
   yarrowbell replay case12.session --profile lax.toml --events case12.csv")]
 pub struct Replay {
-    /// The session file
+    /// The session file, or - for standard input; so a profile's file, but one of them alone
     #[arg(value_name = "SESSION")]
-    session: PathBuf,
+    session: Source,
 
     /// The profile of the unit; without it the loosest one
     #[arg(long, value_name = "P.toml")]
-    profile: Option<PathBuf>,
+    profile: Option<Source>,
 
     /// The capacity of its trace ring in bytes, 16 to 4096
     #[arg(long, value_name = "N", default_value_t = 4096)]
-    #[arg(value_parser = number::size, allow_negative_numbers = true)]
+    #[arg(value_parser = number::capacity, allow_negative_numbers = true)]
     capacity: usize,
 
     /// A second unit of this profile, played beside the first
     #[arg(long, value_name = "Q.toml", conflicts_with = "calls")]
-    against: Option<PathBuf>,
+    against: Option<Source>,
 
     /// List all differences of the two units, not the first twenty of each kind alone
     #[arg(long, requires = "against")]
@@ -100,13 +101,18 @@ pub struct Replay {
 
 impl Replay {
     pub fn run(self, out: Out) -> Result<(), Failure> {
+        input::once(&[
+            ("<SESSION>", Some(&self.session)),
+            ("--profile", self.profile.as_ref()),
+            ("--against", self.against.as_ref()),
+        ])?;
         let session = Session::of_file(&self.session)?;
         let session = match self.until {
             Some(clock) => session.until(clock),
             None => session,
         };
-        let first = profile::of_file(self.profile.as_deref())?;
-        let second = self.against.as_deref().map(|file| profile::of_file(Some(file)));
+        let first = profile::of_file(self.profile.as_ref())?;
+        let second = self.against.as_ref().map(|file| profile::of_file(Some(file)));
         let second = second.transpose()?;
         let guards = [first].into_iter().chain(second).map(|profile| self.guard(profile));
         let mut guards = guards.collect::<Result<Vec<Guard>, BadInput>>()?;

@@ -13,29 +13,29 @@ use yarrowbell::{Command, Init};
 Example:
   yarrowbell write init --channels 1,3 --group-time 3 --main-time 18")]
 pub struct Words {
-    /// The listed channels (Channel_Stim), as 1,3
+    /// The listed channels (Channel_Stim), as 1,3 or 1-4,7
     #[arg(long, value_name = "LIST")]
     #[arg(value_parser = channels::parsed, allow_negative_numbers = true)]
     channels: Channels,
 
-    /// The low frequency channels (Channel_Lf), as 1,3; none if left out
+    /// The low frequency channels (Channel_Lf), as 1,3 or 1-4,7; none if left out
     #[arg(long, value_name = "LIST")]
     #[arg(value_parser = channels::parsed, allow_negative_numbers = true)]
     low_frequency: Option<Channels>,
 
     /// How many cycles the low frequency channels skip (N_Factor), 0 to 7
     #[arg(long, value_name = "N", default_value_t = 0)]
-    #[arg(value_parser = number::byte, allow_negative_numbers = true)]
+    #[arg(value_parser = number::of::<u8>(Field::NFactor), allow_negative_numbers = true)]
     skips: u8,
 
     /// Group_Time, 3 to 29: t2 is G / 2 + 1.5 in ms
     #[arg(long, value_name = "G")]
-    #[arg(value_parser = number::byte, allow_negative_numbers = true)]
+    #[arg(value_parser = number::of::<u8>(Field::GroupTime), allow_negative_numbers = true)]
     group_time: u8,
 
     /// Main_Time, 4 to 2045: t1 is M / 2 + 1 in ms
     #[arg(long, value_name = "M")]
-    #[arg(value_parser = number::two_bytes, allow_negative_numbers = true)]
+    #[arg(value_parser = number::of::<u16>(Field::MainTime), allow_negative_numbers = true)]
     main_time: u16,
 }
 

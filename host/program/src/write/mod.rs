@@ -5,7 +5,7 @@ mod init;
 mod single;
 mod update;
 
-use crate::failure::{Failure, Out};
+use crate::failure::{BadInput, Failure, Out};
 use crate::hex;
 use clap::{Args, Subcommand};
 use yarrowbell::Command;
@@ -17,11 +17,12 @@ Example:
   yarrowbell write single --channel 3 --width 200 --current 120")]
 pub struct Write {
     #[command(subcommand)]
-    kind: Kind,
+    command: Words,
 }
 
+/// A command in words.
 #[derive(Subcommand)]
-enum Kind {
+pub enum Words {
     Single(single::Words),
     Init(init::Words),
     Update(update::Words),
@@ -34,20 +35,31 @@ Example:
 
 impl Write {
     pub fn run(self, out: Out) -> Result<(), Failure> {
+        Ok(writeln!(out, "{}", hex::spelt(&self.command.frame()?))?)
+    }
+}
+
+impl Words {
+    /// The bytes of its frame, if the library writes it.
+    pub fn frame(&self) -> Result<Vec<u8>, BadInput> {
         // The number of listed channels matters to an Update alone.
-        let (command, count, arguments) = match self.kind {
-            Kind::Single(words) => (words.command(), 1, words.arguments()),
-            Kind::Init(words) => (words.command(), 1, words.arguments()),
-            Kind::Update(words) => (words.command(), words.count(), words.arguments()),
-            Kind::Stop => (Command::Stop, 1, Vec::new()),
+        let (command, count) = match self {
+            Words::Single(words) => (words.command(), 1),
+            Words::Init(words) => (words.command(), 1),
+            Words::Update(words) => (words.command()?, words.count()),
+            Words::Stop => (Command::Stop, 1),
         };
         let mut frame = [0; 25];
-        match yarrowbell::write(&command, count, &mut frame) {
-            Ok(used) => Ok(writeln!(out, "{}", hex::spelt(&frame[..used]))?),
-            Err(why) => {
-                let fault = arguments.iter().find_map(|argument| argument.fault(why));
-                Err(fault.expect("the library refuses by document 01's rules").into())
-            }
-        }
+        let used = yarrowbell::write(&command, count, &mut frame).map_err(|why| {
+            let arguments = match self {
+                Words::Single(words) => words.arguments(),
+                Words::Init(words) => words.arguments(),
+                Words::Update(words) => words.arguments(),
+                Words::Stop => Vec::new(),
+            };
+            let fault = arguments.iter().find_map(|argument| argument.fault(why));
+            fault.expect("the library refuses by document 01's rules")
+        })?;
+        Ok(frame[..used].to_vec())
     }
 }

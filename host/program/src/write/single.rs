@@ -15,17 +15,17 @@ Example:
 pub struct Words {
     /// The channel, 1 to 8
     #[arg(long, value_name = "N")]
-    #[arg(value_parser = number::counted_from_1, allow_negative_numbers = true)]
+    #[arg(value_parser = number::of::<NonZeroU8>(Field::ChannelNumber), allow_negative_numbers = true)]
     channel: NonZeroU8,
 
     /// The pulse's width in µs, 0 or 10 to 500
     #[arg(long, value_name = "MICROSECONDS")]
-    #[arg(value_parser = number::two_bytes, allow_negative_numbers = true)]
+    #[arg(value_parser = number::of::<u16>(Field::PulseWidth), allow_negative_numbers = true)]
     width: u16,
 
     /// The pulse's current in mA, 0 to 127
     #[arg(long, value_name = "MILLIAMPS")]
-    #[arg(value_parser = number::byte, allow_negative_numbers = true)]
+    #[arg(value_parser = number::of::<u8>(Field::PulseCurrent), allow_negative_numbers = true)]
     current: u8,
 }
 

@@ -12,7 +12,12 @@ fn lines_of_a_session() {
     for (text, message) in [
         ("0 C0\n\n5 C", "s:3: \"C\" has an odd number of hex digits, and a byte has two"),
         ("0 C0 8", "s:1: \"8\" has an odd number of hex digits, and a byte has two"),
-        ("# a\n0 0xC0", "s:2: 'x' is not a hex digit"),
+        ("# a\n0 0xC", "s:2: \"0xC\" has an odd number of hex digits, and a byte has two"),
+        ("0 C0 x", "s:1: 'x' is not a hex digit"),
+        ("0 C0,,C0", "s:1: ',' has no byte before it"),
+        ("0 C0 :, C0", "s:1: ',' has no byte before it"),
+        ("0 C0\n0 : C0", "s:2: ':' has no byte before it"),
+        ("0 C0;C0", "s:1: ';' is not a hex digit"),
         ("0 C0 ending", "s:1: 'n' is not a hex digit"),
         ("0 C0 end", "s:1: 'n' is not a hex digit"),
         ("5 C0\n4 C0", "s:2: the clock goes back, from 5 to 4"),
@@ -115,6 +120,15 @@ fn arguments() {
         (
             "replay s --until -1",
             "error: Invalid value '-1' for '--until <CLOCK>': not a whole number from 0 to 4294967295",
+        ),
+        (
+            "replay s --capacity -1",
+            "error: Invalid value '-1' for '--capacity <N>': not a whole number from 16 to 4096",
+        ),
+        (
+            "replay s --capacity 99999999999999999999",
+            "error: Invalid value '99999999999999999999' for '--capacity <N>': not a whole number \
+             from 16 to 4096",
         ),
         (
             "replay s --calls --against p.toml",

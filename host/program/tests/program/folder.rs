@@ -46,13 +46,23 @@ impl Folder {
 
     /// Runs the program here, with the words of a line.
     pub fn line(&self, line: &str) -> Ran {
-        run::words_in(&self.0, &line.split_whitespace().collect::<Vec<&str>>())
+        self.fed(line, "")
+    }
+
+    /// Runs it here, with this on standard input.
+    pub fn fed(&self, line: &str, input: impl AsRef<[u8]>) -> Ran {
+        run::fed(&self.0, &line.split_whitespace().collect::<Vec<&str>>(), input.as_ref())
     }
 
     /// Runs it here on bad input: exit status 2, nothing printed, no file more, and this message.
     pub fn refuses(&self, line: &str, message: &str) {
+        self.refuses_fed(line, "", message);
+    }
+
+    /// The same, with this on standard input.
+    pub fn refuses_fed(&self, line: &str, input: impl AsRef<[u8]>, message: &str) {
         let before = self.names();
-        let ran = self.line(line);
+        let ran = self.fed(line, input);
         assert_eq!((ran.status, ran.out.as_str()), (2, ""), "{line}");
         assert_eq!(ran.err, format!("{message}\n"), "{line}");
         assert_eq!(self.names(), before, "{line}");

@@ -1,24 +1,6 @@
-//! Ways to spell the bytes of a frame, and how much of them is read.
+//! How much of the bytes is read.
 
-use crate::run::{ends, printed, words};
-
-#[test]
-fn every_spelling_of_the_same_bytes() {
-    let expected = printed("read E2 21 48 78");
-    let spellings: [&[&str]; 7] = [
-        &["E2214878"],
-        &["e2214878"],
-        &["E221", "4878"],
-        &["E2 21 48 78"],
-        &[" E2  2148 ", "78\n"],
-        &["E2", "21 48", "78"],
-        &["--channels=8", "E2214878"],
-    ];
-    for spelling in spellings {
-        let ran = words(&[&["read"], spelling].concat());
-        assert_eq!((ran.status, ran.out), (0, expected.clone()), "{spelling:?}");
-    }
-}
+use crate::run::{ends, printed};
 
 #[test]
 fn bytes_after_the_frame_are_not_used() {

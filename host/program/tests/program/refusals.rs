@@ -171,6 +171,7 @@ fn a_value_to_write_that_is_not_good() {
         ("update 3:200:40", "entry 1 (3:200:40): the mode 3", "Mode is 0, 1 or 2"),
         ("update 0:9:40 3:0:0", "entry 1 (0:9:40): the width 9", width),
         ("update 0:0:0 0:65535:40", "entry 2 (0:65535:40): the width 65535", width),
+        ("update 4:0:9:40 8:3:0:0", "entry 1 (4:0:9:40): the width 9", width),
         ("update 0:200:40 0:200:255", "entry 2 (0:200:255): the current 255", current),
     ];
     for (words, named, rule) in cases {
@@ -185,7 +186,7 @@ fn more_settings_than_channels() {
         bad(
             &format!("write update {}", setting.repeat(count)),
             &format!(
-                "<MODE:WIDTH:CURRENT>...: a number of {count} settings is not good (answer 4: \
+                "<[CHANNEL:]MODE:WIDTH:CURRENT>...: a number of {count} settings is not good (answer 4: \
                  value not good): a list has 1 to 8 channels"
             ),
         );

@@ -1,6 +1,7 @@
 //! Running the program, and what it does with its output and its exit status.
 
 use std::ffi::OsStr;
+use std::io::Write;
 use std::path::Path;
 use std::process::{Command, Stdio};
 
@@ -17,12 +18,22 @@ pub fn words(words: &[&str]) -> Ran {
 
 /// Runs the program in a folder.
 pub fn words_in<W: AsRef<OsStr>>(folder: &Path, words: &[W]) -> Ran {
-    let output = Command::new(env!("CARGO_BIN_EXE_yarrowbell"))
+    fed(folder, words, b"")
+}
+
+/// Runs the program in a folder, with this on standard input.
+pub fn fed<W: AsRef<OsStr>>(folder: &Path, words: &[W], input: &[u8]) -> Ran {
+    let mut child = Command::new(env!("CARGO_BIN_EXE_yarrowbell"))
         .current_dir(folder)
         .args(words)
-        .stdin(Stdio::null())
-        .output()
+        .stdin(Stdio::piped())
+        .stdout(Stdio::piped())
+        .stderr(Stdio::piped())
+        .spawn()
         .expect("the program starts");
+    // It need not read what it is given.
+    let _ = child.stdin.take().expect("it is piped").write_all(input);
+    let output = child.wait_with_output().expect("the program ends");
     Ran {
         status: output.status.code().expect("the program ends by itself"),
         out: String::from_utf8(output.stdout).expect("it prints UTF-8"),

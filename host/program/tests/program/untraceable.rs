@@ -52,12 +52,14 @@ fn files_of_no_records() {
 fn files_that_are_not_hex() {
     let odd = "\"000\" has an odd number of hex digits, and a byte has two";
     let folder = Folder::new("files_that_are_not_hex")
-        .with("letters", "03 00\n00 0x")
-        .with("odd", "03 00 # 0\n\n000")
-        .with("latin1", b"03 00\n\xFF");
+        .with("letters", "03 00\n00 x")
+        .with("prefix", "03 00\n00 0x")
+        .with("commas", "03,00,\n# still\n,00")
+        .with("odd", "03 00 # 0\n\n000");
     folder.refuses("trace letters", "letters:2: 'x' is not a hex digit");
+    folder.refuses("trace prefix", "prefix:2: \"0x\" has no hex digits behind it");
+    folder.refuses("trace commas", "commas:3: ',' has no byte before it");
     folder.refuses("trace odd", &format!("odd:3: {odd}"));
-    folder.refuses("trace latin1", "latin1:2: not UTF-8, and so no text");
     folder.refuses("trace .", ".: Is a directory (os error 21)");
 }
 

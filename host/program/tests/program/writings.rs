@@ -1,6 +1,6 @@
 //! Ways to spell a command, and the least and greatest good values.
 
-use crate::run::prints;
+use crate::run::{printed, prints};
 
 #[test]
 fn single() {
@@ -28,6 +28,25 @@ fn init() {
 }
 
 #[test]
+fn ranges_of_channels() {
+    let init = |channels: &str| format!("write init --group-time 29 --main-time 2045 {channels}");
+    let greatest = "9F 7F 7F 73 5F 7D";
+    for (list, same) in [
+        ("1-8", "1,2,3,4,5,6,7,8"),
+        ("1-4,7", "1,2,3,4,7"),
+        ("7,1-4", "1,2,3,4,7"),
+        ("1-2,4-5,8", "1,2,4,5,8"),
+        ("3-3", "3"),
+    ] {
+        for name in ["--channels", "--channels 8 --low-frequency"] {
+            let frame = printed(&init(&format!("{name} {list}")));
+            assert_eq!(frame, printed(&init(&format!("{name} {same}"))), "{list}");
+        }
+    }
+    prints(&init("--skips 7 --channels 1-8 --low-frequency 5-8,1-4"), &[greatest]);
+}
+
+#[test]
 fn low_frequency_channels_need_not_be_listed() {
     prints(
         "write init --channels 1 --low-frequency 8 --group-time 3 --main-time 4",
@@ -39,6 +58,8 @@ fn low_frequency_channels_need_not_be_listed() {
 fn update() {
     prints("write update 0:0:0", &["A0 00 00 00"]);
     prints("write update 2:500:127", &["B5 43 74 7F"]);
+    prints("write update 8:2:500:127", &["B5 43 74 7F"]);
+    prints("write update 1:0:200:40 3:1:300:30", &["BB 01 48 28 22 2C 1E"]);
     prints(
         "write update 0:10:0 0:10:0 0:10:0 0:10:0 0:10:0 0:10:0 0:10:0 0:10:88",
         &["A8 00 0A 00 00 0A 00 00 0A 00 00 0A 00 00 0A 00 00 0A 00 00 0A 00 00 0A 58"],
