@@ -58,9 +58,18 @@ pub fn of(bits: u8) -> impl Iterator<Item = u8> {
 
 /// The channels of these bits in a sentence.
 pub fn spelt(bits: u8) -> String {
-    if bits == 0 {
-        return "none".to_owned();
+    match bits {
+        0 => "none".to_owned(),
+        _ => joined(bits, ", "),
     }
+}
+
+/// The channels of these bits as an argument.
+pub fn listed(bits: u8) -> String {
+    joined(bits, ",")
+}
+
+fn joined(bits: u8, with: &str) -> String {
     let channels: Vec<String> = of(bits).map(|channel| channel.to_string()).collect();
-    channels.join(", ")
+    channels.join(with)
 }

@@ -25,6 +25,7 @@ mod progress;
 mod read;
 mod reason;
 mod replay;
+mod script;
 mod session;
 mod setting;
 mod soaking;

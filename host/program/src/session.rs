@@ -69,6 +69,11 @@ impl Session {
         Session { end: clock, ..self }
     }
 
+    /// The bytes with their clocks.
+    pub fn sent(&self) -> &[(u32, u8)] {
+        &self.sent
+    }
+
     pub fn end(&self) -> u32 {
         self.end
     }

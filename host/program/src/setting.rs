@@ -45,8 +45,8 @@ pub fn parsed(word: &str) -> Result<Entry, NotSetting> {
         [channel, mode, width, current] => (Some(channel), [mode, width, current]),
         _ => return Err(NotSetting::Spelling),
     };
-    let channel = channel
-        .map(|word| channels::one(word).ok_or_else(|| NotSetting::Channel(word.to_owned())));
+    let channel =
+        channel.map(|word| channels::one(word).ok_or_else(|| NotSetting::Channel(word.to_owned())));
     Ok(Entry {
         channel: channel.transpose()?,
         setting: Setting {

@@ -1,7 +1,7 @@
 //! The subcommands.
 
 use crate::failure::{Failure, Out};
-use crate::{bench, demo, lesson, read, replay, soaking, trace, write};
+use crate::{bench, demo, lesson, read, replay, script, soaking, trace, write};
 use clap::{Parser, Subcommand};
 use std::process::ExitCode;
 
@@ -27,6 +27,7 @@ enum Task {
     Write(write::Write),
     Trace(trace::Trace),
     Replay(replay::Replay),
+    Session(script::Script),
     Lesson(lesson::Lesson),
     Soak(soaking::Soak),
     Bench(bench::Bench),
@@ -39,6 +40,7 @@ pub fn run(arguments: Arguments, out: Out) -> Result<ExitCode, Failure> {
         Task::Write(write) => write.run(out)?,
         Task::Trace(trace) => trace.run(out)?,
         Task::Replay(replay) => replay.run(out)?,
+        Task::Session(script) => script.run(out)?,
         Task::Lesson(lesson) => lesson.run(out)?,
         Task::Soak(soak) => soak.run(out)?,
         Task::Bench(bench) => return bench.run(),

@@ -3,11 +3,13 @@
 mod argument;
 mod init;
 mod single;
+mod spelt;
 mod update;
 
 use crate::failure::{BadInput, Failure, Out};
 use crate::hex;
 use clap::{Args, Subcommand};
+pub use spelt::spelt;
 use yarrowbell::Command;
 
 /// Write one frame and print its bytes in hex

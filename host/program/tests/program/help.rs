@@ -18,6 +18,7 @@ fn help_is_given() {
 fn examples_work() {
     let folder = Folder::new("examples_work")
         .with("case12.session", "0 88 01 20 00 30 12\n300 end\n")
+        .with("day1.script", "at 0 init --channels 1,3 --group-time 3 --main-time 18\n")
         .with("lax.toml", "watchdog = 250\n")
         .with("strict.toml", "watchdog = 150\n");
     for words in [
@@ -30,6 +31,7 @@ fn examples_work() {
         "write stop",
         "trace",
         "replay",
+        "session",
         "lesson",
         "lesson ring",
         "lesson fields",

@@ -50,6 +50,16 @@ fn in_a_session() {
     }
 }
 
+/// In a script's line.
+#[test]
+fn in_a_script() {
+    let folder = Folder::new("in_a_script");
+    for spelling in SPELLINGS {
+        let ran = folder.fed("session -", format!("at 5 bytes {spelling}\n"));
+        assert_eq!((ran.status, ran.out), (0, format!("5 {PLAIN}\n")), "{spelling:?}");
+    }
+}
+
 /// In the words, the file and the standard input of a trace: a trip's record.
 #[test]
 fn of_a_trace() {

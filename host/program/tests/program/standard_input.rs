@@ -12,6 +12,7 @@ fn takes_the_place_of_a_file() {
     let folder = Folder::new("takes_the_place_of_a_file")
         .with("s", SESSION)
         .with("p.toml", PROFILE)
+        .with("script", "at 5 stop # early\n")
         .with("t", "03 FF 00 00\n00 02 # a trip");
     for (line, file, input) in [
         ("replay - --profile p.toml", "replay s --profile p.toml", "s"),
@@ -20,6 +21,8 @@ fn takes_the_place_of_a_file() {
         ("replay - --calls", "replay s --calls", "s"),
         ("trace -", "trace t", "t"),
         ("trace -- -", "trace t", "t"),
+        ("session -", "session script", "script"),
+        ("session --back -", "session --back s", "s"),
     ] {
         let (ran, expected) = (folder.fed(line, folder.text(input)), folder.line(file));
         assert_eq!((expected.status, expected.err.as_str()), (0, ""), "{file}");
@@ -59,6 +62,12 @@ fn what_is_wrong_with_it() {
             b"watchdog = 0",
             ":1: watchdog: 0 is out of its range, 1 to 600000",
         ),
+        (
+            "session -",
+            b"\n\nat 5 stop now",
+            ":3: Found argument 'now' which wasn't expected, or isn't valid in this context",
+        ),
+        ("session --back -", b"5 C0\n4 C0", ":2: the clock goes back, from 5 to 4"),
         ("read -", b"E2 21\n4", ":2: \"4\" has an odd number of hex digits, and a byte has two"),
         ("read -", b"", ": no bytes"),
         ("read -", b"# nothing\n", ": no bytes"),
