@@ -12,6 +12,10 @@ use yarrowbell::Profile;
 
 const KEYS: [&str; 5] = ["currents", "widths", "charge", "shortest_t1", "watchdog"];
 
+/// How many bytes a file may have: the reader of TOML has its limits, for it calls itself at each
+/// bracket in a bracket.
+const LONGEST: usize = 16_384;
+
 /// What the file says. A number that it leaves out is the loosest.
 #[derive(Deserialize)]
 struct Written {
@@ -51,10 +55,13 @@ impl<'de> Visitor<'de> for KeysVisitor {
 
 /// The loosest profile if no file is named.
 pub fn of_file(file: Option<&Source>) -> Result<Profile, BadInput> {
-    match file {
-        Some(file) => Reader { file: file.name(), text: &file.text()? }.profile(),
-        None => Ok(Profile::LOOSEST),
+    let Some(file) = file else { return Ok(Profile::LOOSEST) };
+    let text = file.text()?;
+    if text.len() > LONGEST {
+        let what = format!("{} bytes, and a profile has at most {LONGEST}", text.len());
+        return Err(BadInput::file(file.name(), what));
     }
+    Reader { file: file.name(), text: &text }.profile()
 }
 
 struct Reader<'a> {

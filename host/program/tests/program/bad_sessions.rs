@@ -105,6 +105,29 @@ fn profiles() {
     }
 }
 
+/// TOML that is nested without end; and comments, of which there may be many.
+#[test]
+fn long_profiles() {
+    let folder = Folder::new("long_profiles").with("s", STOP);
+    let most = "and a profile has at most 16384";
+    for nested in ["currents = [".to_owned(), "a = {a = ".to_owned(), "a.".to_owned()] {
+        folder.put("p.toml", nested.repeat(16_384 / nested.len()));
+        let ran = folder.line("replay s --profile p.toml");
+        assert_eq!((ran.status, ran.out.as_str()), (2, ""), "{nested}");
+        assert!(ran.err.starts_with("p.toml:1: "), "{}", ran.err);
+    }
+    for bracket in ["[", "{a="] {
+        let text = "a = ".to_owned() + &bracket.repeat(16_380 / bracket.len());
+        folder.put("p.toml", &text);
+        assert_eq!(folder.line("replay s --profile p.toml").status, 2);
+        folder.put("p.toml", text.repeat(10));
+        let message = format!("p.toml: {} bytes, {most}", 10 * text.len());
+        folder.refuses("replay s --profile p.toml", &message);
+    }
+    folder.put("p.toml", "# watchdog".repeat(1_638));
+    assert_eq!(folder.line("replay s --profile p.toml").status, 0);
+}
+
 #[test]
 fn arguments() {
     let folder = Folder::new("arguments").with("s", STOP).with("p.toml", "");

@@ -17,6 +17,7 @@ mod demo;
 mod differences;
 mod events;
 mod full;
+mod fuzz;
 mod help;
 mod lessons;
 mod marks;
