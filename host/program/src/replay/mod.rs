@@ -46,7 +46,7 @@ Examples:
   yarrowbell replay case12.session --profile lax.toml --against strict.toml --plot case12.svg
   yarrowbell replay case12.session --profile lax.toml --events case12.csv")]
 pub struct Replay {
-    /// The session file, or - for standard input; so a profile's file, but one of them alone
+    /// The session file; - is standard input, here or for one of the profiles
     #[arg(value_name = "SESSION")]
     session: Source,
 

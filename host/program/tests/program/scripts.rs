@@ -108,7 +108,7 @@ fn the_list_of_the_last_init() {
     taken(&format!("{init} 1,3\nat 0 bytes 84 00\nat 1 stop\nat 2 bytes 20 00 30 12\n{two}"));
 }
 
-/// A million lines are nothing unusual, either way.
+/// A long script is nothing unusual, either way.
 #[test]
 fn a_long_script() {
     let folder = Folder::new("a_long_script");
