@@ -166,14 +166,15 @@ impl Replay {
 
     /// What stands above each unit's panel.
     fn titles(&self) -> Vec<String> {
-        let title = |name, profile| title::of(name, &self.session, profile);
-        match self.against.as_deref() {
-            None => vec![title(None, self.profile.as_deref())],
-            against => NAMES
-                .into_iter()
-                .zip([self.profile.as_deref(), against])
-                .map(|(name, profile)| title(Some(name), profile))
-                .collect(),
+        let [first, second] =
+            [&self.profile, &self.against].map(|of| of.as_ref().map(Source::name));
+        let title = |name, profile| title::of(name, self.session.name(), profile);
+        match second {
+            None => vec![title(None, first)],
+            second => {
+                let profiles = NAMES.into_iter().zip([first, second]);
+                profiles.map(|(name, profile)| title(Some(name), profile)).collect()
+            }
         }
     }
 

@@ -2,7 +2,7 @@
 
 use crate::channels;
 use thiserror::Error;
-use yarrowbell::{Answer, Command};
+use yarrowbell::{Command, NotRead};
 
 /// Sees all that is sent. An Init counts if the library reads it, and whether it stands in words or
 /// in bytes.
@@ -40,7 +40,7 @@ impl List {
             }
             self.open.push(*byte);
             match yarrowbell::read(&self.open, 1) {
-                Err(Answer::Unfinished) => continue,
+                Err(NotRead::Unfinished) => continue,
                 Ok(frame) => {
                     if let Command::Init(init) = frame.command {
                         self.bits = Some(init.stim);

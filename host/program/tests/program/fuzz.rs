@@ -204,10 +204,10 @@ fn readout(rng: &mut SmallRng) -> Vec<u8> {
     let session = short(rng);
     let mut guard = Guard::new(session.profile, session.capacity).expect("both are good");
     for (_, byte) in &session.sent {
-        guard.byte(*byte).expect("its own ring is ready");
+        guard.byte(*byte);
         guard.tick().expect("the clock is far from its end");
     }
-    guard.trace().expect("its own ring is ready")
+    guard.trace()
 }
 
 #[test]

@@ -53,10 +53,10 @@ fn read_out(rng: &mut SmallRng) -> (Vec<u8>, usize) {
     let mut sent = session.sent.iter().peekable();
     loop {
         while let Some((_, byte)) = sent.next_if(|(clock, _)| *clock == guard.clock()) {
-            guard.byte(*byte).expect("its own ring is ready");
+            guard.byte(*byte);
         }
         if guard.clock() == session.end {
-            return (guard.trace().expect("its own ring is ready"), session.capacity);
+            return (guard.trace(), session.capacity);
         }
         guard.tick().expect("the clock is far from its end");
     }
