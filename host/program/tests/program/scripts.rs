@@ -45,6 +45,17 @@ fn a_script() {
     assert_eq!(story.out.lines().count(), 1 + 6 + 7 + 4 + 7 + 1 + 2 + 6 + 310);
 }
 
+/// The script in the help.
+#[test]
+fn the_example() {
+    let folder = Folder::new("the_example");
+    let help = folder.line("session --help").out;
+    let lines: Vec<&str> = help.lines().filter(|line| line.starts_with("  at ")).collect();
+    assert_eq!(lines.len(), 5, "{help}");
+    let ran = folder.fed("session -", lines.join("\n"));
+    assert_eq!((ran.status, ran.out.lines().count()), (0, 5), "{}", ran.err);
+}
+
 /// Each frame is the one that `write` prints.
 #[test]
 fn the_words_of_write() {
