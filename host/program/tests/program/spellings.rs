@@ -38,6 +38,24 @@ fn in_one_word_and_in_several() {
     }
 }
 
+#[test]
+fn words_of_several_bytes() {
+    let expected = printed("read E2 21 48 78");
+    let spellings: [&[&str]; 7] = [
+        &["E2214878"],
+        &["e2214878"],
+        &["E221", "4878"],
+        &["E2 21 48 78"],
+        &[" E2  2148 ", "78\n"],
+        &["E2", "21 48", "78"],
+        &["--channels=8", "E2214878"],
+    ];
+    for spelling in spellings {
+        let ran = words(&[&["read"], spelling].concat());
+        assert_eq!((ran.status, ran.out), (0, expected.clone()), "{spelling:?}");
+    }
+}
+
 /// In a session's line.
 #[test]
 fn in_a_session() {
