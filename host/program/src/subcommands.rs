@@ -36,7 +36,7 @@ enum Task {
 pub fn run(arguments: Arguments, out: Out) -> Result<ExitCode, Failure> {
     match arguments.task {
         Task::Demo(demo) => demo.run(out)?,
-        Task::Read(read) => read.run(out)?,
+        Task::Read(read) => return read.run(out),
         Task::Write(write) => write.run(out)?,
         Task::Trace(trace) => trace.run(out)?,
         Task::Replay(replay) => replay.run(out)?,

@@ -3,31 +3,41 @@
 use super::given::Value;
 use crate::field::Field;
 
-/// The sum of the variables, those of each listed channel together, beside what the frame says.
-pub fn worked_out(values: &[Value], modulus: u32) -> String {
-    let mut groups: Vec<Vec<&Value>> = Vec::new();
-    for value in values.iter().filter(|value| value.field.is_variable()) {
-        match groups.last_mut() {
-            Some(group) if group[0].entry == value.entry => group.push(value),
-            _ => groups.push(vec![value]),
-        }
+pub struct Check {
+    /// The terms of the sum, those of each listed channel together.
+    terms: Vec<Vec<u16>>,
+    pub sum: u32,
+    pub modulus: u32,
+    /// What the check should be, and what the frame says.
+    pub should_be: u32,
+    pub says: u32,
+}
+
+impl Check {
+    /// The sum of the variables, beside what the frame says.
+    pub fn of(values: &[Value], modulus: u32) -> Check {
+        let variables: Vec<&Value> =
+            values.iter().filter(|value| value.field.is_variable()).collect();
+        let groups = variables.chunk_by(|one, other| one.entry == other.entry);
+        let terms = groups.map(|group| group.iter().map(|value| value.number).collect()).collect();
+        let sum = variables.iter().map(|value| u32::from(value.number)).sum();
+        let says = values.iter().find(|value| value.field == Field::Check);
+        let says = says.map_or(0, |value| u32::from(value.number));
+        Check { terms, sum, modulus, should_be: sum % modulus, says }
     }
-    let sum: u32 = groups.iter().flatten().map(|value| u32::from(value.number)).sum();
-    let sums: Vec<String> = groups
-        .iter()
-        .map(|group| {
-            let terms: Vec<String> = group.iter().map(|value| value.number.to_string()).collect();
-            terms.join(" + ")
-        })
-        .collect();
-    let work = match &sums[..] {
-        [] => "of no variables is 0".to_owned(),
-        [only] => format!("{only} = {sum}"),
-        more => format!("({}) = {sum}", more.join(") + (")),
-    };
-    let is = sum % modulus;
-    let says = values.iter().find(|value| value.field == Field::Check);
-    let says = says.map_or(0, |value| u32::from(value.number));
-    let verdict = if says == is { "right" } else { "wrong" };
-    format!("check {work}, modulo {modulus} = {is}; the frame says {says}: {verdict}")
+
+    pub fn told(&self) -> String {
+        let Check { terms, sum, modulus, should_be, says } = self;
+        let sums: Vec<String> = terms
+            .iter()
+            .map(|group| group.iter().map(u16::to_string).collect::<Vec<String>>().join(" + "))
+            .collect();
+        let work = match &sums[..] {
+            [] => "of no variables is 0".to_owned(),
+            [only] => format!("{only} = {sum}"),
+            more => format!("({}) = {sum}", more.join(") + (")),
+        };
+        let verdict = if says == should_be { "right" } else { "wrong" };
+        format!("check {work}, modulo {modulus} = {should_be}; the frame says {says}: {verdict}")
+    }
 }

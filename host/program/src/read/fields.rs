@@ -18,7 +18,8 @@ pub fn of(values: &[Value]) -> Vec<String> {
     lines
 }
 
-fn told(value: &Value) -> String {
+/// The number with its meaning, or what is missing or wrong.
+pub fn told(value: &Value) -> String {
     let Value { field, number, missing, .. } = value;
     if *missing != 0 {
         return format!("    -: {} missing", rows::numbered(missing - 1, 0));

@@ -4,15 +4,20 @@ mod check;
 mod end;
 mod fields;
 mod given;
+mod json;
+pub mod keyed;
 mod layout;
+mod reading;
 mod rows;
 
 use crate::bytes::Bytes;
 use crate::failure::{BadInput, Failure, Out};
 use crate::{number, words};
 use clap::Args;
-use given::Given;
+pub use reading::Reading;
 use std::ffi::OsString;
+use std::process::ExitCode;
+use yarrowbell::Answer;
 
 /// Read one frame: its bits, its fields, its check, and the answer to it
 ///
@@ -30,7 +35,8 @@ hex too, with # before a comment, or the bytes themselves if it is no text.
 
 Examples:
   yarrowbell read E2 21 48 78
-  yarrowbell read BB014828222C1E --channels 2")]
+  yarrowbell read BB014828222C1E --channels 2
+  yarrowbell read C0 --json --check")]
 pub struct Read {
     /// The frame's bytes in hex, or - for standard input; those after the frame are not used
     #[arg(value_name = "HEX", required = true, value_parser = clap::value_parser!(OsString))]
@@ -40,24 +46,27 @@ pub struct Read {
     #[arg(long, value_name = "N")]
     #[arg(value_parser = number::listed, allow_negative_numbers = true)]
     channels: Option<u8>,
+
+    /// Print what is in the frame as JSON, one object in a line
+    #[arg(long)]
+    json: bool,
+
+    /// Exit with status 1 if the frame is refused: if its answer is not 0
+    #[arg(long)]
+    check: bool,
 }
 
 impl Read {
-    pub fn run(self, out: Out) -> Result<(), Failure> {
+    pub fn run(self, out: Out) -> Result<ExitCode, Failure> {
         let bytes = self.bytes()?;
-        let count = self.channels.map_or_else(|| told_by(&bytes), usize::from);
-        let read = yarrowbell::read(&bytes, count);
-        let given = Given::new(&bytes, count);
-        let values = given.values(read.as_ref().ok().map(|frame| &frame.command), count);
-        let sections = [
-            vec![head(&given, count, self.channels.is_none())],
-            rows::of(&given),
-            fields::of(&values),
-            end::of(&given, &values, count, &read),
-        ];
-        let texts = sections.iter().filter(|lines| !lines.is_empty());
-        let texts: Vec<String> = texts.map(|lines| lines.join("\n")).collect();
-        Ok(writeln!(out, "{}", texts.join("\n\n"))?)
+        let reading = Reading::of(&bytes, self.channels.map(usize::from));
+        if self.json {
+            json::print(&reading, out)?;
+        } else {
+            print(&reading, out)?;
+        }
+        let refused = self.check && reading.answer != Answer::Done;
+        Ok(if refused { ExitCode::FAILURE } else { ExitCode::SUCCESS })
     }
 
     /// There is at least one.
@@ -70,20 +79,26 @@ impl Read {
     }
 }
 
-/// The number of listed channels that the bytes of an Update tell.
-fn told_by(bytes: &[u8]) -> usize {
-    let low = bytes[1..].iter().take_while(|byte| **byte < 0x80).count();
-    low.div_ceil(3).clamp(1, 8)
+fn print(reading: &Reading, out: Out) -> Result<(), Failure> {
+    let sections = [
+        vec![head(reading)],
+        rows::of(&reading.given),
+        fields::of(&reading.values),
+        end::of(reading),
+    ];
+    let texts = sections.iter().filter(|lines| !lines.is_empty());
+    let texts: Vec<String> = texts.map(|lines| lines.join("\n")).collect();
+    Ok(writeln!(out, "{}", texts.join("\n\n"))?)
 }
 
-fn head(given: &Given, count: usize, told: bool) -> String {
+fn head(Reading { given, count, told, .. }: &Reading) -> String {
     if !given.is_frame() {
         return "No frame".to_owned();
     }
     let name = words::name(given.bytes[0]);
     let listed = match name {
-        "Update" if told => format!(" for {}, as its bytes tell", channels(count)),
-        "Update" => format!(" for {}", channels(count)),
+        "Update" if *told => format!(" for {}, as its bytes tell", channels(*count)),
+        "Update" => format!(" for {}", channels(*count)),
         _ => String::new(),
     };
     let bytes = if given.length() == 1 { "byte" } else { "bytes" };

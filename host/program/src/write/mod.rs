@@ -2,6 +2,7 @@
 
 mod argument;
 mod init;
+mod json;
 mod single;
 mod spelt;
 mod update;
@@ -20,6 +21,10 @@ Example:
 pub struct Write {
     #[command(subcommand)]
     command: Words,
+
+    /// Print the frame as JSON, one object in a line
+    #[arg(long, global = true)]
+    json: bool,
 }
 
 /// A command in words.
@@ -37,7 +42,12 @@ Example:
 
 impl Write {
     pub fn run(self, out: Out) -> Result<(), Failure> {
-        Ok(writeln!(out, "{}", hex::spelt(&self.command.frame()?))?)
+        let frame = self.command.frame()?;
+        if self.json {
+            json::print(&frame, out)
+        } else {
+            Ok(writeln!(out, "{}", hex::spelt(&frame))?)
+        }
     }
 }
 

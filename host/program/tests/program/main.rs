@@ -16,6 +16,7 @@ mod beside;
 mod demo;
 mod differences;
 mod events;
+mod frames_json;
 mod full;
 mod fuzz;
 mod help;

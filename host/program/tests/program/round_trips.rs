@@ -15,7 +15,7 @@ fn list(bits: u8) -> String {
 }
 
 /// The line that has the program write this command.
-fn spelt(command: &Command, count: usize) -> String {
+pub fn spelt(command: &Command, count: usize) -> String {
     match command {
         Command::Init(init) => {
             let low_frequency = match init.lf {
