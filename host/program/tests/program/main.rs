@@ -2,6 +2,7 @@
 
 mod folder;
 mod independently;
+mod objects;
 mod random;
 mod run;
 #[path = "../../../tests/shared/seeded.rs"]
@@ -13,10 +14,10 @@ mod well_formed;
 mod bad_scripts;
 mod bad_sessions;
 mod beside;
+mod checked;
 mod demo;
 mod differences;
 mod events;
-mod frames_json;
 mod full;
 mod fuzz;
 mod help;
@@ -29,6 +30,7 @@ mod papers;
 mod pipes;
 mod plots;
 mod random_events;
+mod read_json;
 mod readings;
 mod refusals;
 mod round_trips;
@@ -44,4 +46,5 @@ mod trace_json;
 mod traces;
 mod turned_back;
 mod untraceable;
+mod write_json;
 mod writings;

@@ -2,6 +2,7 @@
 
 use crate::folder::Folder;
 use crate::independently::{played, text, toml, Call};
+use crate::objects::hex;
 use crate::seeded::seeded;
 use crate::table::Table;
 use rand::Rng;
@@ -182,8 +183,4 @@ fn frame(bytes: &[u8]) -> [String; 8] {
     cells[0] = hex(bytes);
     cells[1] = ["Init", "Update", "Stop", "Single"][usize::from(bytes[0] >> 5 & 3)].to_owned();
     cells
-}
-
-fn hex(bytes: &[u8]) -> String {
-    bytes.iter().map(|byte| format!("{byte:02X}")).collect::<Vec<String>>().join(" ")
 }

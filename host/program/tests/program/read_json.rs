@@ -1,25 +1,10 @@
-//! `read --json` and `write --json`, compared with the independent codec.
+//! `read --json`, compared with the independent codec.
 
-use crate::random;
-use crate::round_trips::spelt;
-use crate::run::{self, printed};
-use crate::table::object;
-use independent::{Command, Init, Setting, Single};
+use crate::objects::{command, has, hex, number, told, Object};
+use crate::{random, run};
+use independent::{Command, Single};
 use rand::Rng;
-use serde_json::{json, Map, Value};
-
-type Object = Map<String, Value>;
-
-/// The object that a line prints, which stands in one line.
-fn told(words: &str) -> Object {
-    let out = printed(words);
-    assert_eq!(out.lines().count(), 1, "{words}");
-    object(&out)
-}
-
-fn hex(bytes: &[u8]) -> String {
-    bytes.iter().map(|byte| format!("{byte:02X}")).collect::<Vec<String>>().join(" ")
-}
+use serde_json::{json, Value};
 
 /// The keys stand in this order.
 #[test]
@@ -36,14 +21,6 @@ fn a_good_frame() {
            \"used\":4,\"answer\":0,\"answer_words\":\"good frame\",\"reply\":\"C1\",\"note\":null}",
         ],
     );
-}
-
-/// These keys have these values.
-fn has(words: &str, values: Value) {
-    let told = told(words);
-    for (key, value) in values.as_object().expect("keys with values") {
-        assert_eq!(told[key], *value, "{words}: {key}");
-    }
 }
 
 #[test]
@@ -133,16 +110,15 @@ fn any_bytes() {
         let mut bytes = bytes[..used.expect("the values are good")].to_vec();
         match rng.gen_range(0..5) {
             0 => bytes = random::bytes(rng),
-            4 => {
-                let width = [1, 9, 501, 511][rng.gen_range(0..4)];
-                let single = Single { pulse_width: width, ..Single::default() };
-                let single = Command::Single(single);
-                bytes = independent::compose(&single, 1, independent::check(&single));
-            }
             1 => bytes.truncate(rng.gen_range(1..=bytes.len())),
             2 => {
                 let place = rng.gen_range(0..bytes.len());
                 bytes[place] ^= 1 << rng.gen_range(0..8);
+            }
+            3 => {
+                let pulse_width = [1, 9, 501, 511][rng.gen_range(0..4)];
+                let single = Command::Single(Single { pulse_width, ..Single::default() });
+                bytes = independent::compose(&single, 1, independent::check(&single));
             }
             _ => bytes.extend(random::bytes(rng)),
         }
@@ -181,99 +157,4 @@ fn written_again(told: &Object, count: usize) -> Vec<u8> {
         }
     }
     frame
-}
-
-fn command(told: &Object) -> Command {
-    let fields = &told["fields"];
-    let of = |fields: &Value, key: &str| number(&fields[key]);
-    match number(&told["ident"]) {
-        0 => Command::Init(Init {
-            n_factor: of(fields, "n_factor") as u8,
-            channel_stim: of(fields, "channel_stim") as u8,
-            channel_lf: of(fields, "channel_lf") as u8,
-            group_time: of(fields, "group_time") as u8,
-            main_time: of(fields, "main_time") as u16,
-        }),
-        1 => {
-            let mut settings = [Setting::default(); 8];
-            let entries = fields.as_array().expect("an Update has a list");
-            for (setting, entry) in settings.iter_mut().zip(entries) {
-                *setting = Setting {
-                    mode: of(entry, "mode") as u8,
-                    pulse_width: of(entry, "pulse_width") as u16,
-                    pulse_current: of(entry, "pulse_current") as u8,
-                };
-            }
-            Command::Update(settings)
-        }
-        2 => {
-            assert_eq!(*fields, Value::Null);
-            Command::Stop
-        }
-        _ => Command::Single(Single {
-            channel_number: of(fields, "channel_number") as u8,
-            pulse_width: of(fields, "pulse_width") as u16,
-            pulse_current: of(fields, "pulse_current") as u8,
-        }),
-    }
-}
-
-fn number(value: &Value) -> usize {
-    value.as_u64().unwrap_or_else(|| panic!("{value} is no number")) as usize
-}
-
-#[test]
-fn written_frames() {
-    run::prints(
-        "write single --channel 3 --width 200 --current 120 --json",
-        &["{\"bytes\":\"E2 21 48 78\",\"command\":\"Single\",\"ident\":3,\"fields\":{\
-           \"channel_number\":2,\"pulse_width\":200,\"pulse_current\":120},\"fields_words\":{\
-           \"channel_number\":\"2: channel 3\",\"pulse_width\":\"200 µs\",\
-           \"pulse_current\":\"120 mA\"},\"note\":null}"],
-    );
-    has("write --json stop", json!({"bytes": "C0", "ident": 2, "fields": null, "note": null}));
-    has("write update 0:0:0 2:500:127 --json", json!({"note": "for a list of 2 channels"}));
-    run::bad(
-        "write single --json --channel 3 --width 9 --current 120",
-        "--width: 9 is not good (answer 4: value not good): a width is 0 or 10 to 500 µs",
-    );
-}
-
-#[test]
-fn any_command_written() {
-    random::seeded(25_000..25_100, |rng| {
-        let count = rng.gen_range(1..=8);
-        for given in [random::init(rng), random::update(rng, count), random::single(rng)] {
-            let line = spelt(&given, count);
-            let told = told(&format!("{line} --json"));
-            let command = command(&told);
-            let frame = independent::compose(&command, count, independent::check(&command));
-            assert_eq!(told["bytes"], hex(&frame), "{line}");
-            assert_eq!(printed(&line).trim_end(), hex(&frame), "{line}");
-        }
-    });
-}
-
-/// The output is the same, and the exit status tells.
-#[test]
-fn refused_where_that_is_asked() {
-    for (words, status) in [
-        ("E2 21 48 78", 0),
-        ("C0 FF", 0),
-        ("E3 21 48 78", 1),
-        ("E2 21 48", 1),
-        ("21", 1),
-        ("E3 20 09 78", 1),
-        ("E2 21 C0", 1),
-        ("C0 --channels 9", 1),
-    ] {
-        for json in ["", "--json"] {
-            let asked = run::line(&format!("read {words} {json} --check"));
-            let not_asked = run::line(&format!("read {words} {json}"));
-            assert_eq!((asked.status, not_asked.status), (status, 0), "{words}");
-            assert_eq!((asked.out, asked.err), (not_asked.out, String::new()), "{words}");
-        }
-    }
-    let ran = run::line("read --check XY");
-    assert_eq!((ran.status, ran.out.as_str()), (2, ""));
 }
