@@ -12,6 +12,7 @@ mod course;
 mod demo;
 mod failure;
 mod field;
+mod frame;
 mod hex;
 mod input;
 mod json;

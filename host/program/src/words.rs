@@ -1,7 +1,7 @@
 //! Commands, their answers and numbers in words.
 
-use crate::channels;
-use yarrowbell::{Answer, Command, Init, Setting};
+use crate::{channels, frame};
+use yarrowbell::{Answer, Command, Init, Setting, Single};
 
 /// The commands by their Ident.
 pub const COMMANDS: [&str; 4] = ["Init", "Update", "Stop", "Single"];
@@ -13,23 +13,17 @@ pub fn name(first: u8) -> &'static str {
 
 /// The command of a whole frame, with its variables if they can be read.
 pub fn command(bytes: &[u8]) -> String {
-    let count = (bytes.len() - 1) / 3;
-    match yarrowbell::read(bytes, count.clamp(1, 8)) {
-        Ok(frame) => match frame.command {
-            Command::Init(init) => format!("Init: {}", list(init)),
-            Command::Update(settings) => {
-                let settings: Vec<String> = settings[..count].iter().map(setting).collect();
-                format!("Update: {}", settings.join("; "))
-            }
-            Command::Stop => "Stop".to_owned(),
-            Command::Single(single) => format!(
-                "Single: channel {}, {} µs, {} mA",
-                single.channel + 1,
-                single.width,
-                single.current
-            ),
-        },
-        Err(_) => name(bytes[0]).to_owned(),
+    let name = name(bytes[0]);
+    match frame::command(bytes) {
+        Some(Command::Init(init)) => format!("{name}: {}", list(init)),
+        Some(Command::Update(settings)) => {
+            let settings = settings[..frame::entries(bytes)].iter().map(setting);
+            format!("{name}: {}", settings.collect::<Vec<String>>().join("; "))
+        }
+        Some(Command::Single(Single { channel, width, current })) => {
+            format!("{name}: channel {}, {width} µs, {current} mA", channel + 1)
+        }
+        Some(Command::Stop) | None => name.to_owned(),
     }
 }
 

@@ -1,7 +1,6 @@
 //! The check of a whole frame, worked out.
 
-use super::given::Value;
-use crate::field::Field;
+use crate::frame::given::{sum_and_check, Value};
 
 pub struct Check {
     /// The terms of the sum, those of each listed channel together.
@@ -20,9 +19,7 @@ impl Check {
             values.iter().filter(|value| value.field.is_variable()).collect();
         let groups = variables.chunk_by(|one, other| one.entry == other.entry);
         let terms = groups.map(|group| group.iter().map(|value| value.number).collect()).collect();
-        let sum = variables.iter().map(|value| u32::from(value.number)).sum();
-        let says = values.iter().find(|value| value.field == Field::Check);
-        let says = says.map_or(0, |value| u32::from(value.number));
+        let (sum, says) = sum_and_check(values);
         Check { terms, sum, modulus, should_be: sum % modulus, says }
     }
 

@@ -1,6 +1,6 @@
 //! The fields of a frame in lines, those of each listed channel together.
 
-use super::given::Value;
+use crate::frame::given::Value;
 use super::rows;
 
 pub fn of(values: &[Value]) -> Vec<String> {

@@ -1,7 +1,7 @@
 //! The fields of a frame by their names in small letters, as scripts have them.
 
 use super::fields;
-use super::given::Value;
+use crate::frame::given::Value;
 use super::reading::Reading;
 use crate::field::Field;
 use serde::{Serialize, Serializer};

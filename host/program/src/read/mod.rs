@@ -3,10 +3,8 @@
 mod check;
 mod end;
 mod fields;
-mod given;
 mod json;
 pub mod keyed;
-mod layout;
 mod reading;
 mod rows;
 

@@ -1,7 +1,7 @@
 //! Bytes as they are read: against the layout of their frame, and by the library.
 
 use super::check::Check;
-use super::given::{Given, Value};
+use crate::frame::given::{Given, Value};
 use crate::channels;
 use yarrowbell::{reply, Answer};
 

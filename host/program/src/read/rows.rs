@@ -1,7 +1,7 @@
 //! The bits of bytes in rows, and which field each belongs to.
 
-use super::given::Given;
-use super::layout::{Place, Span};
+use crate::frame::given::Given;
+use crate::frame::layout::{Place, Span};
 use crate::field::Field;
 
 /// A row for each byte of the frame, and below it one for each field that has bits in it. A low

@@ -79,6 +79,15 @@ impl<'a> Given<'a> {
     }
 }
 
+/// The sum of the variables, and the check that the frame says.
+pub fn sum_and_check(values: &[Value]) -> (u32, u32) {
+    let numbers = |wanted: fn(Field) -> bool| -> u32 {
+        let of = values.iter().filter(|value| wanted(value.field));
+        of.map(|value| u32::from(value.number)).sum()
+    };
+    (numbers(Field::is_variable), numbers(|field| field == Field::Check))
+}
+
 /// The variables of a command in the order of its frame.
 fn variables(command: &Command, count: usize) -> Vec<u16> {
     match command {
@@ -109,9 +118,7 @@ mod tests {
         let mut bytes: Vec<u8> = (1..length).map(|_| rng.gen_range(0..=0x7F)).collect();
         bytes.insert(0, first);
         let given = Given::new(&bytes, count);
-        let variables = given.values(None, count);
-        let variables = variables.iter().filter(|value| value.field.is_variable());
-        let check = variables.map(|value| u32::from(value.number)).sum::<u32>() % given.modulus();
+        let check = sum_and_check(&given.values(None, count)).0 % given.modulus();
         // The check ends in bit 2 of an Init's first byte, else in bit 0.
         let (mask, shift) = if given.modulus() == 8 { (0x1C, 2) } else { (0x1F, 0) };
         bytes[0] = bytes[0] & !mask | (check as u8) << shift;
