@@ -2,7 +2,7 @@
 
 use crate::picture::{self, Panel};
 use crate::play::Step;
-use crate::reason::{self, Reason};
+use crate::reason::{self, Reason, Trip};
 use crate::unit::Call;
 use yarrowbell::raw::BoxRecord;
 use yarrowbell::{Answer, Cause, Guard, State, Told};
@@ -32,7 +32,7 @@ pub enum What {
 #[derive(Clone, Debug, PartialEq, Eq)]
 pub struct Decided {
     pub bytes: Vec<u8>,
-    /// The bits of the channels that were listed when it came.
+    /// The bits of the channels that were listed when its first byte came.
     pub listed: u8,
     pub answer: Answer,
     pub reply: u8,
@@ -74,7 +74,10 @@ impl Courses {
 /// Turns what a unit says to its calls into events.
 #[derive(Default)]
 pub struct Watcher {
+    /// The frame that is open, and the bits of the channels that were listed when it was opened.
     frame: Vec<u8>,
+    listed: u8,
+    trip: Option<Trip>,
 }
 
 impl Watcher {
@@ -88,22 +91,29 @@ impl Watcher {
             let current = pulse.current.into();
             What::Pulse(Pulse { channel: pulse.channel, width: pulse.width, current })
         }));
-        seen.extend(told.trip.map(What::Trip));
         let (clock, state) = (left.clock(), left.state());
+        if let Some(cause) = told.trip {
+            self.trip = Some(Trip { clock, cause });
+            seen.push(What::Trip(cause));
+        }
         seen.into_iter().map(|what| Event { clock, state, what }).collect()
     }
 
     fn see_byte(&mut self, byte: u8, before: &BoxRecord, told: &Told, seen: &mut Vec<What>) {
-        if byte >= 0x80 && !self.frame.is_empty() {
-            seen.push(What::Dropped(std::mem::take(&mut self.frame)));
+        if byte >= 0x80 {
+            self.listed = before.core.run.list.stim;
+            if !self.frame.is_empty() {
+                seen.push(What::Dropped(std::mem::take(&mut self.frame)));
+            }
         }
         match (told.answer, told.reply) {
             (Answer::LowByte, _) => seen.push(What::Stray(byte)),
             (answer, Some(reply)) => {
                 let mut bytes = std::mem::take(&mut self.frame);
                 bytes.push(byte);
-                let listed = before.core.run.list.stim;
-                let reasons = reason::of(before, &bytes, answer);
+                let reasons = reason::of(before, &bytes, answer).into_iter();
+                let reasons = reasons.map(|reason| reason.since(self.trip)).collect();
+                let listed = self.listed;
                 seen.push(What::Decided(Decided { bytes, listed, answer, reply, reasons }));
             }
             _ => self.frame.push(byte),

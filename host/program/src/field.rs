@@ -1,6 +1,6 @@
 //! The variables of frames: their names, their good values, and what their numbers mean.
 
-use crate::{channels, words};
+use crate::words;
 
 /// A field of a frame, as source 003 names it.
 #[derive(Clone, Copy, Debug, PartialEq, Eq)]
@@ -83,11 +83,7 @@ impl Field {
             Check | DontCare => String::new(),
             NFactor if value == 0 => ": no cycle skipped".to_owned(),
             NFactor => format!(": {value} of {} cycles skipped", value + 1),
-            ChannelStim | ChannelLf => match value as u8 {
-                0 => ": no channel".to_owned(),
-                one if one.is_power_of_two() => format!(": channel {}", channels::spelt(one)),
-                more => format!(": channels {}", channels::spelt(more)),
-            },
+            ChannelStim | ChannelLf => format!(": {}", words::channels(value as u8)),
             GroupTime => format!(": t2 = {}", words::t2(value)),
             MainTime => format!(": t1 = {}", words::t1(value)),
             Mode if value > 2 => String::new(),

@@ -33,6 +33,7 @@ mod setting;
 mod soaking;
 mod story;
 mod subcommands;
+mod times;
 mod trace;
 mod unit;
 mod words;

@@ -1,6 +1,6 @@
 //! Commands, their answers and numbers in words.
 
-use crate::{channels, frame};
+use crate::{channels, frame, times};
 use yarrowbell::{Answer, Command, Init, Setting, Single};
 
 /// The commands by their Ident.
@@ -11,14 +11,22 @@ pub fn name(first: u8) -> &'static str {
     COMMANDS[usize::from(first >> 5 & 3)]
 }
 
-/// The command of a whole frame, with its variables if they can be read.
-pub fn command(bytes: &[u8]) -> String {
+/// The command of a whole frame, with its variables if they can be read. Those of an Update are the
+/// listed channels', if there are as many.
+pub fn command(bytes: &[u8], listed: u8) -> String {
     let name = name(bytes[0]);
     match frame::command(bytes) {
         Some(Command::Init(init)) => format!("{name}: {}", list(init)),
         Some(Command::Update(settings)) => {
-            let settings = settings[..frame::entries(bytes)].iter().map(setting);
-            format!("{name}: {}", settings.collect::<Vec<String>>().join("; "))
+            let entries = frame::entries(bytes);
+            let settings = settings[..entries].iter().map(setting);
+            let told: Vec<String> = if listed.count_ones() as usize == entries {
+                let named = channels::of(listed).zip(settings);
+                named.map(|(channel, setting)| format!("channel {channel} {setting}")).collect()
+            } else {
+                settings.collect()
+            };
+            format!("{name}: {}", told.join("; "))
         }
         Some(Command::Single(Single { channel, width, current })) => {
             format!("{name}: channel {}, {width} µs, {current} mA", channel + 1)
@@ -29,7 +37,7 @@ pub fn command(bytes: &[u8]) -> String {
 
 fn list(init: Init) -> String {
     let (t1, t2) = (t1(init.main), t2(init.group.into()));
-    let mut list = format!("channels {}, t1 {t1}, t2 {t2}", channels::spelt(init.stim));
+    let mut list = format!("{}, t1 {t1}, t2 {t2}", channels(init.stim));
     if init.lf != 0 {
         let lf = channels::spelt(init.lf);
         list += &format!(", low frequency {lf} skipping {} of {}", init.factor, init.factor + 1);
@@ -50,14 +58,23 @@ pub fn pulses(mode: u8) -> &'static str {
     }
 }
 
+/// The channels of these bits, by their name.
+pub fn channels(bits: u8) -> String {
+    match bits.count_ones() {
+        0 => "no channel".to_owned(),
+        1 => format!("channel {}", channels::spelt(bits)),
+        _ => format!("channels {}", channels::spelt(bits)),
+    }
+}
+
 /// The main period that a Main_Time gives.
 pub fn t1(main_time: u16) -> String {
-    format!("{} ms", milliseconds(5 * u32::from(main_time) + 10))
+    format!("{} ms", milliseconds(times::t1(main_time)))
 }
 
 /// The group interval that a Group_Time gives.
 pub fn t2(group_time: u16) -> String {
-    format!("{} ms", milliseconds(5 * u32::from(group_time) + 15))
+    format!("{} ms", milliseconds(times::t2(group_time)))
 }
 
 /// Tenths of a millisecond in milliseconds.

@@ -50,6 +50,11 @@ impl<'a> Given<'a> {
         self.bytes.get(self.own).copied().filter(|_| self.own < self.length())
     }
 
+    /// The bytes of the frame, as far as they are there.
+    pub fn frame(&self) -> &[u8] {
+        &self.bytes[..self.own]
+    }
+
     /// The bytes behind the frame, and behind what cuts it.
     pub fn behind(&self) -> &[u8] {
         &self.bytes[self.own + usize::from(self.cutting().is_some())..]

@@ -5,14 +5,13 @@ pub mod layout;
 
 use yarrowbell::Command;
 
-/// How many channels a whole Update of these bytes has.
+/// How many channels a whole Update of these bytes has. Of other frames it is a number that can be
+/// listed too, and matters to none of them.
 pub fn entries(bytes: &[u8]) -> usize {
-    (bytes.len() - 1) / 3
+    ((bytes.len() - 1) / 3).max(1)
 }
 
 /// The command of a whole frame, if the library reads it.
 pub fn command(bytes: &[u8]) -> Option<Command> {
-    // The number of listed channels matters to an Update alone.
-    let count = entries(bytes).clamp(1, 8);
-    yarrowbell::read(bytes, count).ok().map(|frame| frame.command)
+    yarrowbell::read(bytes, entries(bytes)).ok().map(|frame| frame.command)
 }

@@ -1,7 +1,7 @@
 //! What comes of a frame: its check, what the library says of it, and the reply.
 
 use super::reading::Reading;
-use crate::hex;
+use crate::{hex, reason};
 
 pub fn of(reading: &Reading) -> Vec<String> {
     let given = &reading.given;
@@ -22,5 +22,6 @@ pub fn of(reading: &Reading) -> Vec<String> {
     let (number, words) = (reading.answer.number(), reading.answer_words());
     let reply = hex::spelt(&[reading.reply.unwrap_or(0)]);
     lines.push(format!("answer {number}: {words}, reply {reply}"));
+    lines.extend(reason::everywhere(given.frame()));
     lines
 }

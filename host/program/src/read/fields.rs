@@ -1,7 +1,7 @@
 //! The fields of a frame in lines, those of each listed channel together.
 
-use crate::frame::given::Value;
 use super::rows;
+use crate::frame::given::Value;
 
 pub fn of(values: &[Value]) -> Vec<String> {
     let mut lines = Vec::new();

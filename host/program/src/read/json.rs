@@ -4,7 +4,7 @@ use super::keyed::{self, Keyed};
 use super::reading::Reading;
 use crate::failure::{Failure, Out};
 use crate::field::Field;
-use crate::{hex, json, words};
+use crate::{hex, json, reason, words};
 use serde::Serialize;
 
 /// The keys. What there is not is null.
@@ -90,7 +90,7 @@ pub fn print(reading: &Reading, out: Out) -> Result<(), Failure> {
         answer: reading.answer.number(),
         answer_words: reading.answer_words(),
         reply: reading.reply.map(|reply| hex::spelt(&[reply])),
-        note: reading.note(),
+        note: reading.note().or_else(|| reason::noted(given.frame())),
     };
     json::line(&line, out)
 }

@@ -1,9 +1,9 @@
 //! The fields of a frame by their names in small letters, as scripts have them.
 
 use super::fields;
-use crate::frame::given::Value;
 use super::reading::Reading;
 use crate::field::Field;
+use crate::frame::given::Value;
 use serde::{Serialize, Serializer};
 
 /// Something of each field: of an Update in a list, which has an entry for each listed channel.

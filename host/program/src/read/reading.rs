@@ -1,8 +1,8 @@
 //! Bytes as they are read: against the layout of their frame, and by the library.
 
 use super::check::Check;
-use crate::frame::given::{Given, Value};
 use crate::channels;
+use crate::frame::given::{Given, Value};
 use yarrowbell::{reply, Answer};
 
 pub struct Reading<'a> {

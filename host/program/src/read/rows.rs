@@ -1,8 +1,8 @@
 //! The bits of bytes in rows, and which field each belongs to.
 
+use crate::field::Field;
 use crate::frame::given::Given;
 use crate::frame::layout::{Place, Span};
-use crate::field::Field;
 
 /// A row for each byte of the frame, and below it one for each field that has bits in it. A low
 /// first byte stands alone; a high byte that cuts the frame stands last.

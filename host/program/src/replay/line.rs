@@ -118,10 +118,10 @@ impl<'a> Line<'a> {
     }
 
     fn decided(self, decided: &Decided) -> Line<'a> {
-        let Decided { bytes, answer, reply, reasons, .. } = decided;
+        let Decided { bytes, listed, answer, reply, reasons } = decided;
         let reasons: Vec<String> = reasons.iter().map(ToString::to_string).collect();
         Line {
-            command_words: Some(words::command(bytes)),
+            command_words: Some(words::command(bytes, *listed)),
             reply: Some(hex::spelt(&[*reply])),
             reason: (!reasons.is_empty()).then(|| reasons.join("; ")),
             ..self.frame(bytes).answered(*answer)

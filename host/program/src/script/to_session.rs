@@ -80,7 +80,10 @@ impl Turning {
                 let frame = self.frame(words)?;
                 self.list.see(&frame);
                 let sent = format!("{clock} {}", hex::spelt(&frame));
-                format!("{sent:COLUMN$} # {}\n", words::command(&frame))
+                format!(
+                    "{sent:COLUMN$} # {}\n",
+                    words::command(&frame, self.list.bits().unwrap_or(0))
+                )
             }
         };
         self.session += &line;

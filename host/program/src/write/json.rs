@@ -3,7 +3,7 @@
 use crate::failure::{Failure, Out};
 use crate::read::keyed::{self, Keyed};
 use crate::read::Reading;
-use crate::{hex, json, words};
+use crate::{hex, json, reason, words};
 use serde::Serialize;
 
 /// The keys. What there is not is null.
@@ -14,7 +14,7 @@ struct Line {
     ident: u8,
     fields: Option<Keyed<u16>>,
     fields_words: Option<Keyed<String>>,
-    /// What the frame is for, if that is not in it.
+    /// What the frame is for, if that is not in it, or why every unit refuses it.
     note: Option<String>,
 }
 
@@ -28,10 +28,11 @@ pub fn print(frame: &[u8], out: Out) -> Result<(), Failure> {
         ident,
         fields: keyed::numbers(&reading),
         fields_words: keyed::words(&reading),
-        note: (command == "Update").then(|| match reading.count {
-            1 => "for a list of 1 channel".to_owned(),
-            more => format!("for a list of {more} channels"),
-        }),
+        note: match (command, reading.count) {
+            ("Update", 1) => Some("for a list of 1 channel".to_owned()),
+            ("Update", more) => Some(format!("for a list of {more} channels")),
+            _ => reason::noted(frame),
+        },
     };
     json::line(&line, out)
 }

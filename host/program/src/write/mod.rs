@@ -8,7 +8,7 @@ mod spelt;
 mod update;
 
 use crate::failure::{BadInput, Failure, Out};
-use crate::hex;
+use crate::{hex, reason};
 use clap::{Args, Subcommand};
 pub use spelt::spelt;
 use yarrowbell::Command;
@@ -44,10 +44,13 @@ impl Write {
     pub fn run(self, out: Out) -> Result<(), Failure> {
         let frame = self.command.frame()?;
         if self.json {
-            json::print(&frame, out)
-        } else {
-            Ok(writeln!(out, "{}", hex::spelt(&frame))?)
+            return json::print(&frame, out);
         }
+        writeln!(out, "{}", hex::spelt(&frame))?;
+        for refused in reason::everywhere(&frame) {
+            eprintln!("{refused}");
+        }
+        Ok(())
     }
 }
 

@@ -26,19 +26,24 @@ fn a_strict_unit_trips_and_rejoins() {
     let expected = "     clock          ms  the first                                   the second
          0         0.0  > 88 01 20 00 30 12  Init: channels 1, 3, t1 10.0 ms, t2 3.0 ms
                         answer 0: command carried out, reply 01     answer 0: command carried out, reply 01
-         5         0.5  > AC 01 48 28 22 2C 0F  Update: single pulse 200 µs 40 mA; doublet 300 µs 15 mA
+         5         0.5  > AC 01 48 28 22 2C 0F  Update: channel 1 single pulse 200 µs 40 mA;
+                            channel 3 doublet 300 µs 15 mA
                         answer 0: command carried out, reply 41     answer 0: command carried out, reply 41
        100        10.0  pulse on channel 1: 200 µs, 40 mA           pulse on channel 1: 200 µs, 40 mA
        115        11.5  pulse on channel 3: 300 µs, 15 mA           pulse on channel 3: 300 µs, 15 mA
-       120        12.0  > BB 01 48 28 22 2C 1E  Update: single pulse 200 µs 40 mA; doublet 300 µs 30 mA
+       120        12.0  > BB 01 48 28 22 2C 1E  Update: channel 1 single pulse 200 µs 40 mA;
+                            channel 3 doublet 300 µs 30 mA
                         answer 0: command carried out, reply 41     answer 9: over a limit, reply 40            differ
+                                                                      channel 3: 30 mA is above its limit of
+                                                                        25 mA
                                                                     TRIP, cause: limit                          differ
        145        14.5  pulse on channel 3: 300 µs, 15 mA                                                       differ
        200        20.0  pulse on channel 1: 200 µs, 40 mA                                                       differ
        215        21.5  pulse on channel 3: 300 µs, 30 mA                                                       differ
        230        23.0  > 88 01 20 00 30 12  Init: channels 1, 3, t1 10.0 ms, t2 3.0 ms
                         answer 0: command carried out, reply 01     answer 0: command carried out, reply 01
-       235        23.5  > AC 01 48 28 22 2C 0F  Update: single pulse 200 µs 40 mA; doublet 300 µs 15 mA
+       235        23.5  > AC 01 48 28 22 2C 0F  Update: channel 1 single pulse 200 µs 40 mA;
+                            channel 3 doublet 300 µs 15 mA
                         answer 0: command carried out, reply 41     answer 0: command carried out, reply 41
        330        33.0  pulse on channel 1: 200 µs, 40 mA           pulse on channel 1: 200 µs, 40 mA
        345        34.5  pulse on channel 3: 300 µs, 15 mA           pulse on channel 3: 300 µs, 15 mA

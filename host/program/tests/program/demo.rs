@@ -10,7 +10,8 @@ fn case_12_on_two_units() {
     assert_eq!(folder.names(), ["demo-lax.trace", "demo-strict.trace", "demo.svg"]);
     let lines: Vec<&str> = ran.out.lines().map(str::trim).collect();
     for line in [
-        "5         0.5  > BB 01 48 28 22 2C 1E  Update: single pulse 200 µs 40 mA; doublet 300 µs 30 mA",
+        "5         0.5  > BB 01 48 28 22 2C 1E  Update: channel 1 single pulse 200 µs 40 mA;",
+        "channel 3 doublet 300 µs 30 mA",
         "145        14.5  pulse on channel 3: 300 µs, 30 mA           pulse on channel 3: 300 µs, 30 mA",
         "200        20.0  pulse on channel 1: 200 µs, 40 mA                                                       differ",
         "255        25.5  TRIP, cause: watchdog                                                                   differ",

@@ -35,9 +35,11 @@ pub fn toml(profile: &Profile) -> String {
     )
 }
 
-/// A call: the clock after it, the byte if it is one, what is said to it, the state that it leaves,
-/// whether that is tripped, and the number of the cause if it made the box trip.
+/// A call: the box before it, the clock after it, the byte if it is one, what is said to it, the
+/// state that it leaves, whether that is tripped, and the number of the cause if it made the box
+/// trip.
 pub struct Call {
+    pub before: BoxRecord,
     pub clock: u32,
     pub byte: Option<u8>,
     pub said: Said,
@@ -55,15 +57,15 @@ impl Call {
         }
     }
 
-    /// Of a box that was in this state before.
-    fn of(before: u16, byte: Option<u8>, said: Said, left: &BoxRecord) -> Call {
+    /// Of a box that was so before.
+    fn of(before: BoxRecord, byte: Option<u8>, said: Said, left: &BoxRecord) -> Call {
         let (state, tripped) = (STATES[usize::from(left.state)], left.state == TRIPPED);
         let trip = match (said.answer, byte) {
             (9, _) => Some(1),
-            (_, None) if tripped && before != TRIPPED => Some(2),
+            (_, None) if tripped && before.state != TRIPPED => Some(2),
             _ => None,
         };
-        Call { clock: left.clock, byte, said, state, tripped, trip }
+        Call { before, clock: left.clock, byte, said, state, tripped, trip }
     }
 }
 
@@ -77,14 +79,14 @@ pub fn played(session: &Session, profile: Profile) -> (Vec<Call>, Vec<u8>) {
     let mut calls = Vec::new();
     loop {
         while let Some(&(_, byte)) = sent.next_if(|(clock, _)| *clock == unit.clock) {
-            let before = unit.state;
+            let before = unit;
             let said = unit.byte(&mut ring, at, byte);
             calls.push(Call::of(before, Some(byte), said, &unit));
         }
         if unit.clock == session.end {
             break;
         }
-        let before = unit.state;
+        let before = unit;
         let said = unit.tick(&mut ring, at);
         calls.push(Call::of(before, None, said, &unit));
     }

@@ -1,6 +1,7 @@
 //! Random commands and bytes through the program, against the package's own `read` and `write`.
 
-use crate::{random, run, told};
+use crate::{random, run, told, why};
+use independent::Init;
 use rand::Rng;
 use yarrowbell::{read, reply, write, Answer, Command};
 
@@ -54,8 +55,30 @@ fn framed(command: &Command, count: usize) -> Vec<u8> {
 
 fn written_and_read(command: &Command, count: usize) {
     let frame = framed(command, count);
-    run::prints(&spelt(command, count), &[&hex(&frame)]);
+    writes(command, count, &frame);
     says_as_the_package(&frame, count);
+}
+
+/// The program prints this frame, and says if every unit refuses it.
+fn writes(command: &Command, count: usize, frame: &[u8]) {
+    let line = spelt(command, count);
+    let ran = run::line(&line);
+    assert_eq!((ran.status, ran.out), (0, hex(frame) + "\n"), "{line}");
+    assert_eq!(ran.err.lines().collect::<Vec<&str>>(), refused(command), "{line}");
+}
+
+/// What is said of a command that every unit refuses.
+fn refused(command: &Command) -> Vec<String> {
+    let Command::Init(init) = command else { return Vec::new() };
+    let broken = why::timing(&Init {
+        n_factor: init.factor,
+        channel_stim: init.stim,
+        channel_lf: init.lf,
+        group_time: init.group,
+        main_time: init.main,
+    });
+    let said = |rule| format!("every unit refuses this Init with answer 5: {rule}");
+    broken.into_iter().map(said).collect()
 }
 
 /// The program reads what `read` does, and says all of it.
@@ -69,6 +92,7 @@ fn says_as_the_package(bytes: &[u8], count: usize) {
         Ok(frame) => {
             assert_eq!(told::frame(&text), (frame, reply(ident, Answer::Done)), "{line}");
             assert_eq!(shown.len(), frame.used, "{line}");
+            assert_eq!(told::behind(&text), refused(&frame.command), "{line}");
         }
         Err(why) => {
             let answer = why.answer();
@@ -159,7 +183,7 @@ fn any_values() {
             let line = spelt(&command, count);
             let mut out = [0; 25];
             match write(&command, count, &mut out) {
-                Ok(used) => run::prints(&line, &[&hex(&out[..used])]),
+                Ok(used) => writes(&command, count, &out[..used]),
                 Err(_) => {
                     let ran = run::line(&line);
                     assert_eq!((ran.status, ran.out.as_str()), (2, ""), "{line}");

@@ -24,9 +24,9 @@ at 310 end
 
 const SESSION: &str = "\
 0 88 01 20 00 30 12         # Init: channels 1, 3, t1 10.0 ms, t2 3.0 ms
-5 BB 01 48 28 22 2C 1E      # Update: single pulse 200 µs 40 mA; doublet 300 µs 30 mA
+5 BB 01 48 28 22 2C 1E      # Update: channel 1 single pulse 200 µs 40 mA; channel 3 doublet 300 µs 30 mA
 125 E2 21 48 78             # Single: channel 3, 200 µs, 120 mA
-125 BB 01 48 28 22 2C 1E    # Update: single pulse 200 µs 40 mA; doublet 300 µs 30 mA
+125 BB 01 48 28 22 2C 1E    # Update: channel 1 single pulse 200 µs 40 mA; channel 3 doublet 300 µs 30 mA
 300 C0                      # Stop
 310 E2 21
 310 83 7F 7E 03 5F 7D       # Init: channels 1, 2, 3, 4, 5, 6, 7, 8, t1 1023.5 ms, t2 16.0 ms, low frequency 5, 6, 7, 8 skipping 7 of 8

@@ -14,7 +14,8 @@ const CASE_12: &str = "\
 const STORY_12: &str = "     clock          ms  unit
          0         0.0  > 88 01 20 00 30 12  Init: channels 1, 3, t1 10.0 ms, t2 3.0 ms
                         answer 0: command carried out, reply 01
-         5         0.5  > BB 01 48 28 22 2C 1E  Update: single pulse 200 µs 40 mA; doublet 300 µs 30 mA
+         5         0.5  > BB 01 48 28 22 2C 1E  Update: channel 1 single pulse 200 µs 40 mA;
+                            channel 3 doublet 300 µs 30 mA
                         answer 0: command carried out, reply 41
        100        10.0  pulse on channel 1: 200 µs, 40 mA
        115        11.5  pulse on channel 3: 300 µs, 30 mA
@@ -95,22 +96,28 @@ fn until() {
     );
 }
 
-/// A stray byte, an unfinished frame dropped, a wrong check, and a list that is stopped.
+/// A stray byte, an unfinished frame dropped, a wrong check, a list that is stopped, an Update that
+/// comes too late, and a frame that the end leaves unfinished.
 #[test]
 fn what_is_no_command() {
     let folder = Folder::new("what_is_no_command")
-        .with("odd.session", "3 7F\n4 E2 21 C1\n5 88 01 20 00 30 12 C0\n");
+        .with("odd.session", "3 7F\n4 E2 21 C1\n5 88 01 20 00 30 12 C0\n6 BB 88 01\n");
     let story = "     clock          ms  unit
          3         0.3  stray byte 7F, answer 2
          4         0.4  > C1  Stop
-                        dropped unfinished: E2 21
+                        dropped unfinished: E2 21 (Single, 2 of 4 bytes)
                         answer 3: wrong check, reply 80
+                          the check is 0, the frame says 1
          5         0.5  > 88 01 20 00 30 12  Init: channels 1, 3, t1 10.0 ms, t2 3.0 ms
                         answer 0: command carried out, reply 01
          5         0.5  > C0  Stop
                         answer 0: command carried out, reply 81
+         6         0.6  > BB  Update
+                        answer 6: Update, no list, reply 40
+                          no list runs
+         6         0.6  unfinished at the end: 88 01 (Init, 2 of 6 bytes)
 
-unit: idle at clock 5; commands 3, pulses 0, trips 0
+unit: idle at clock 6; commands 4, pulses 0, trips 0
 ";
     prints(&folder, "replay odd.session", story);
 }

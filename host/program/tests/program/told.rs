@@ -8,6 +8,14 @@ pub fn parts(text: &str) -> Vec<&str> {
     text.trim_end().split("\n\n").collect()
 }
 
+/// What stands before the reply to a good frame.
+const ANSWERED: &str = "answer 0: good frame, reply ";
+
+/// What is said behind the answer to a good frame.
+pub fn behind(text: &str) -> Vec<&str> {
+    text.lines().skip_while(|line| !line.starts_with(ANSWERED)).skip(1).collect()
+}
+
 /// A good frame and the reply byte.
 pub fn frame(text: &str) -> (Frame, u8) {
     let [_, _, fields, end] = parts(text)[..] else { panic!("not four parts: {text}") };
@@ -37,7 +45,7 @@ pub fn frame(text: &str) -> (Frame, u8) {
     let mut lines = end.lines();
     assert!(lines.next().is_some_and(|check| check.ends_with(": right")), "{text}");
     let used = lines.next().and_then(|line| line.strip_prefix("bytes used "));
-    let reply = lines.last().and_then(|line| line.strip_prefix("answer 0: good frame, reply "));
+    let reply = lines.find_map(|line| line.strip_prefix(ANSWERED));
     let used = used.and_then(|used| used.parse().ok()).expect("the bytes used");
     let reply = reply.and_then(|reply| u8::from_str_radix(reply, 16).ok()).expect("the reply");
     (Frame { command, used }, reply)

@@ -33,7 +33,7 @@ fn any_command() {
             let command = command(&told);
             let frame = independent::compose(&command, count, independent::check(&command));
             assert_eq!(told["bytes"], hex(&frame), "{line}");
-            assert_eq!(run::printed(&line).trim_end(), hex(&frame), "{line}");
+            assert_eq!(run::line(&line).out.trim_end(), hex(&frame), "{line}");
         }
     });
 }

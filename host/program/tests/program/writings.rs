@@ -1,6 +1,11 @@
 //! Ways to spell a command, and the least and greatest good values.
 
-use crate::run::{printed, prints};
+use crate::run::{self, printed, prints};
+
+/// What is said of an Init with the least Group_Time and the least Main_Time.
+const TOO_SHORT: &str =
+    "every unit refuses this Init with answer 5: t1 30 is below 1·30 + 15 = 45 \
+                         tenths of a ms: n·t2 + 15, n the largest Mode plus 1\n";
 
 #[test]
 fn single() {
@@ -11,9 +16,12 @@ fn single() {
 
 #[test]
 fn init() {
-    let least = "80 00 20 00 30 04";
-    prints("write init --channels 1 --group-time 3 --main-time 4", &[least]);
-    prints("write init --skips 0 --channels 1 --group-time 3 --main-time 4", &[least]);
+    let least = "80 00 20 00 30 04\n";
+    for skips in ["", "--skips 0 "] {
+        let line = format!("write init {skips}--channels 1 --group-time 3 --main-time 4");
+        let ran = run::line(&line);
+        assert_eq!((ran.status, ran.out.as_str(), ran.err.as_str()), (0, least, TOO_SHORT));
+    }
     let greatest = "9F 7F 7F 73 5F 7D";
     prints(
         "write init --channels 1,2,3,4,5,6,7,8 --low-frequency 1,2,3,4,5,6,7,8 --skips 7 \
@@ -49,8 +57,8 @@ fn ranges_of_channels() {
 #[test]
 fn low_frequency_channels_need_not_be_listed() {
     prints(
-        "write init --channels 1 --low-frequency 8 --group-time 3 --main-time 4",
-        &["80 00 30 00 30 04"],
+        "write init --channels 1 --low-frequency 8 --group-time 3 --main-time 7",
+        &["8C 00 30 00 30 07"],
     );
 }
 
