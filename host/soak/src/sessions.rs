@@ -1,5 +1,6 @@
 //! Random sessions: what is sent to a box, and when.
 
+use crate::pick::once_in;
 use crate::{act, numbers, profiles};
 use independent::plain::machine;
 use rand::rngs::SmallRng;
@@ -35,6 +36,17 @@ pub fn session(rng: &mut SmallRng) -> Session {
         }
     }
     Session { profile, capacity, sent, end: guard.clock() }
+}
+
+/// A session of which some bits were turned on the way.
+pub fn damaged(rng: &mut SmallRng) -> Session {
+    let mut session = session(rng);
+    for (_, byte) in &mut session.sent {
+        if once_in(rng, 60) {
+            *byte ^= 1 << rng.gen_range(0..8);
+        }
+    }
+    session
 }
 
 fn ticks(guard: &mut Guard, ticks: u32) {

@@ -30,8 +30,9 @@ fn the_first_broken_rule_is_the_answer() {
     let mut met: BTreeMap<String, usize> = BTreeMap::new();
     for seed in 0..2_000 {
         let mut rng = SmallRng::seed_from_u64(seed);
-        let session = damaged(sessions::session(&mut rng), &mut rng);
-        let profile = sessions::tighter(&mut rng, session.profile);
+        let session = sessions::damaged(&mut rng);
+        let tighter = sessions::tighter(&mut rng, session.profile);
+        let profile = if rng.gen() { session.profile } else { tighter };
         play(&session, profile, |before, decided| {
             let Decided { bytes, answer, reasons, .. } = decided;
             let found = TESTED.map(|answer| (answer, of(before, bytes, answer)));
@@ -100,17 +101,6 @@ fn kind(reason: &Reason) -> String {
         Reason::Tripped(Some(Trip { cause, .. })) => return format!("tripped by {cause}"),
     };
     name.to_owned()
-}
-
-/// The session, with some bits of every second one turned on the way.
-fn damaged(mut session: Session, rng: &mut SmallRng) -> Session {
-    let damaged = rng.gen();
-    for (_, byte) in &mut session.sent {
-        if damaged && rng.gen_range(0..40) == 0 {
-            *byte ^= 1 << rng.gen_range(0..8);
-        }
-    }
-    session
 }
 
 /// Plays a session, and hands on each command that is decided, with the box before its last byte.

@@ -6,54 +6,39 @@ use crate::independently::{played, text, toml, Call};
 use crate::retold;
 use crate::rows::{rows, Row};
 use crate::seeded::seeded;
-use rand::rngs::SmallRng;
 use rand::Rng;
-use soak::sessions::{self, Session};
+use soak::sessions;
+use std::ops::Range;
 
 #[test]
 fn one_unit() {
-    let folder = Folder::new("stories of one unit");
-    let mut met = [0; 11];
-    seeded(7_000..7_150, |rng| {
-        let session = damaged(sessions::session(rng), rng);
-        folder.put("s", text(&session, rng.gen()));
-        folder.put("p.toml", toml(&session.profile));
-        let line = format!("replay s --profile p.toml --capacity {}", session.capacity);
-        let calls = [played(&session, session.profile).0];
-        same(&told(&folder, &line, 1), &retold::rows(&calls));
-        count(&mut met, &calls);
-    });
-    assert!(met[3..].iter().all(|times| *times > 50), "{met:?}");
+    told_again("stories of one unit", 7_000..7_150, 1);
 }
 
 #[test]
 fn two_units() {
-    let folder = Folder::new("stories of two units");
+    told_again("stories of two units", 8_000..8_150, 2);
+}
+
+fn told_again(name: &str, seeds: Range<u64>, units: usize) {
+    let folder = Folder::new(name);
     let mut met = [0; 11];
-    seeded(8_000..8_150, |rng| {
-        let session = damaged(sessions::session(rng), rng);
+    seeded(seeds, |rng| {
+        let session = sessions::damaged(rng);
         let tighter = sessions::tighter(rng, session.profile);
         folder.put("s", text(&session, rng.gen()));
         folder.put("p.toml", toml(&session.profile));
         folder.put("q.toml", toml(&tighter));
-        let line =
-            format!("replay s --profile p.toml --against q.toml --capacity {}", session.capacity);
-        let calls = [session.profile, tighter].map(|profile| played(&session, profile).0);
-        same(&told(&folder, &line, 2), &retold::rows(&calls));
-        count(&mut met, &calls);
-    });
-    assert!(met[3..].iter().all(|times| *times > 50), "{met:?}");
-}
-
-/// The session, with some bits of every second one turned on the way.
-fn damaged(mut session: Session, rng: &mut SmallRng) -> Session {
-    let damaged = rng.gen();
-    for (_, byte) in &mut session.sent {
-        if damaged && rng.gen_range(0..40) == 0 {
-            *byte ^= 1 << rng.gen_range(0..8);
+        let against = ["", "--against q.toml"][units - 1];
+        let line = format!("replay s --capacity {} --profile p.toml {against}", session.capacity);
+        let profiles = [session.profile, tighter].into_iter().take(units);
+        let calls: Vec<Vec<Call>> = profiles.map(|profile| played(&session, profile).0).collect();
+        same(&told(&folder, &line, units), &retold::rows(&calls));
+        for call in calls.iter().flatten() {
+            met[usize::from(call.said.answer)] += 1;
         }
-    }
-    session
+    });
+    assert!(met[3..].iter().all(|times| *times > 50), "{met:?} show little");
 }
 
 fn told(folder: &Folder, line: &str, units: usize) -> Vec<Row> {
@@ -67,11 +52,4 @@ fn same(told: &[Row], should: &[Row]) {
         assert_eq!(told, should);
     }
     assert_eq!(told.len(), should.len());
-}
-
-/// How often each answer was given.
-fn count(met: &mut [usize; 11], units: &[Vec<Call>]) {
-    for call in units.iter().flatten() {
-        met[usize::from(call.said.answer)] += 1;
-    }
 }
