@@ -8,6 +8,7 @@ mod boxes;
 mod fair;
 mod frames;
 mod meter;
+mod names;
 mod ring;
 #[path = "../../tests/shared/seeded.rs"]
 mod seeded;
@@ -25,4 +26,5 @@ fn main() {
     tables.extend(frames::tables(&mut meter));
     tables.extend(ring::tables(&mut meter));
     table::print(&tables);
+    meter.check_names();
 }

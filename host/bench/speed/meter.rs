@@ -1,6 +1,8 @@
 //! What criterion measures, side against side, and the medians that it finds.
 
+use crate::names::{Group, GROUPS};
 use criterion::{Bencher, BenchmarkId, Criterion, SamplingMode};
+use std::collections::BTreeSet;
 use std::path::{Path, PathBuf};
 use std::time::{Duration, SystemTime};
 use std::{env, fs};
@@ -18,6 +20,8 @@ pub struct Meter {
     criterion: Criterion,
     estimates: PathBuf,
     began: SystemTime,
+    /// The names of the measurements so far, whether they were asked for or not.
+    names: BTreeSet<String>,
 }
 
 /// The nanoseconds of one call on each side.
@@ -48,7 +52,7 @@ impl Meter {
             .sample_size(30)
             .nresamples(2_000)
             .configure_from_args();
-        Meter { criterion, estimates, began: SystemTime::now() }
+        Meter { criterion, estimates, began: SystemTime::now(), names: BTreeSet::new() }
     }
 
     /// Measures the library and the plain side.
@@ -84,11 +88,19 @@ impl Meter {
     }
 
     fn once(&mut self, group: &str, what: &str, (name, run): Side) -> Option<f64> {
+        self.names.insert(format!("{group}/{name}/{what}"));
         self.criterion
             .benchmark_group(group)
             .sampling_mode(SamplingMode::Flat)
             .bench_function(BenchmarkId::new(name, what), run);
         self.median(&self.estimates.join(group).join(name).join(what))
+    }
+
+    /// Stops if the measurements, of which none is left to come, have other names than are listed.
+    pub fn check_names(&self) {
+        let listed: BTreeSet<String> = GROUPS.iter().flat_map(Group::names).collect();
+        let other: Vec<&String> = self.names.symmetric_difference(&listed).collect();
+        assert!(other.is_empty(), "speed/names.rs and the measurements differ in {other:?}");
     }
 
     /// The median in criterion's file, if it was written in this run.

@@ -16,6 +16,7 @@ mod why;
 
 mod bad_scripts;
 mod bad_sessions;
+mod benchmark;
 mod beside;
 mod checked;
 mod demo;
