@@ -1,8 +1,8 @@
 //! The program `yarrowbell`: what a bench engineer and a teacher use, over the proved library.
 //!
-//! Exit status: 0 done; 1 a soak that found a difference, or a frame refused where that was asked; 2
-//! bad input, of which nothing was done; 3 what it had to say could not be printed. A reader who has
-//! gone, as behind a pipe, is no failure.
+//! Exit status: 0 done; 1 a difference found by soak or bench, or a frame refused under read --check;
+//! 2 bad input, and nothing done; 3 could not print, or ./yarrowbell could not build the program, or
+//! bench the benchmark. A reader who has gone, as behind a pipe, is no failure.
 
 mod against;
 mod bench;

@@ -3,6 +3,7 @@
 use crate::failure::{Failure, Out};
 use crate::number;
 use crate::progress::Progress;
+use crate::words::thousands;
 use clap::Args;
 use soak::met::Met;
 use soak::{history, pairs};
@@ -30,11 +31,13 @@ impl Soak {
     pub fn run(self, out: Out) -> Result<(), Failure> {
         let mut met = Met::default();
         let ran = self.soak(&mut met);
-        for (what, count) in met.of_histories().into_iter().chain(met.of_pairs()) {
-            writeln!(out, "{count:>12}  {what}")?;
+        let counts = met.of_histories().into_iter().chain(met.of_pairs());
+        let calls = met.calls + met.pair_calls;
+        for (what, count) in counts {
+            writeln!(out, "{}", line(&what, count, calls))?;
         }
         ran?;
-        writeln!(out, "{:>12}  calls, all boxes agree", met.calls + met.pair_calls)?;
+        writeln!(out, "{}", line("calls, all boxes agree", calls, calls))?;
         Ok(())
     }
 
@@ -50,5 +53,23 @@ impl Soak {
             }
         }
         Ok(())
+    }
+}
+
+/// A count and what was counted, in columns that have room for the number of all calls.
+fn line(what: &str, count: u64, calls: u64) -> String {
+    let width = thousands(calls).len();
+    format!("{:>width$}  {what}", thousands(count))
+}
+
+#[cfg(test)]
+mod tests {
+    use super::line;
+
+    #[test]
+    fn columns() {
+        let calls = 4_000_000_000_000;
+        assert_eq!(line("rings wrapped", 12_345, calls), "           12,345  rings wrapped");
+        assert_eq!(line("calls", calls, calls), "4,000,000,000,000  calls");
     }
 }

@@ -13,7 +13,11 @@ use std::process::ExitCode;
     after_help = "\
 Each command has an example in its own help, as yarrowbell read --help.
 
-Exit status: 0 done, 2 for bad input."
+Exit status:
+  0  done
+  1  a difference found by soak or bench, or a frame refused under read --check
+  2  bad input, and nothing done
+  3  could not print, or ./yarrowbell could not build the program, or bench the benchmark"
 )]
 pub struct Arguments {
     #[command(subcommand)]

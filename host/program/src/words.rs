@@ -77,6 +77,14 @@ pub fn t2(group_time: u16) -> String {
     format!("{} ms", milliseconds(times::t2(group_time)))
 }
 
+/// The head of two columns, of a clock and of the same in milliseconds.
+pub const TIME: &str = "     clock          ms";
+
+/// A clock in these columns, which have room for the last one.
+pub fn time(clock: u32) -> String {
+    format!("{clock:>10} {:>11}", milliseconds(clock))
+}
+
 /// Tenths of a millisecond in milliseconds.
 pub fn milliseconds(tenths: u32) -> String {
     format!("{}.{}", tenths / 10, tenths % 10)
@@ -106,5 +114,17 @@ pub fn meaning(answer: Answer) -> String {
     match answer {
         Answer::Done => "command carried out".to_owned(),
         other => other.to_string(),
+    }
+}
+
+#[cfg(test)]
+mod tests {
+    use super::{time, TIME};
+
+    #[test]
+    fn columns_of_time() {
+        assert_eq!(time(0), "         0         0.0");
+        assert_eq!(time(u32::MAX), "4294967295 429496729.5");
+        assert_eq!(TIME.len(), time(u32::MAX).len());
     }
 }

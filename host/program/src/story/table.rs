@@ -1,7 +1,7 @@
 //! The story's lines: the time at the left, and a column for each unit.
 
 use super::wrapping::wrapped;
-use crate::words::milliseconds;
+use crate::words::{time, TIME};
 
 /// How wide a column is that has others beside it.
 const COLUMN: usize = 42;
@@ -31,7 +31,7 @@ impl Table {
     }
 
     pub fn head(&self, names: &[&str]) -> String {
-        format!("{:>10} {:>11}  {}\n", "clock", "ms", self.row(names.iter().copied()).trim_end())
+        format!("{TIME}  {}\n", self.row(names.iter().copied()).trim_end())
     }
 
     /// The lines of a text over all columns.
@@ -60,9 +60,9 @@ impl Table {
 
     /// The lines, with the time before the first.
     pub fn timed(&self, clock: u32, lines: &[String]) -> String {
-        let time = format!("{clock:>10} {:>11}", milliseconds(clock));
+        let (time, width) = (time(clock), TIME.len());
         let times = std::iter::once(time.as_str()).chain(std::iter::repeat(""));
-        lines.iter().zip(times).map(|(line, time)| format!("{time:22}  {line}\n")).collect()
+        lines.iter().zip(times).map(|(line, time)| format!("{time:width$}  {line}\n")).collect()
     }
 }
 

@@ -61,11 +61,10 @@ impl Trace {
         if records.is_empty() {
             return Ok(writeln!(out, "no records")?);
         }
-        writeln!(out, "{:>4}  {:>10}  {:>11}  record", "at", "clock", "ms")?;
+        writeln!(out, "{:>4}  {}  record", "at", words::TIME)?;
         for (record, marks) in marked {
-            let (at, clock, ms) = (record.at, record.clock, words::milliseconds(record.clock));
-            let (body, marks) = (told::body(record.body), told::marks(marks));
-            writeln!(out, "{at:>4}  {clock:>10}  {ms:>11}  {body}{marks}")?;
+            let (at, time) = (record.at, words::time(record.clock));
+            writeln!(out, "{at:>4}  {time}  {}{}", told::body(record.body), told::marks(marks))?;
         }
         Ok(())
     }

@@ -13,6 +13,20 @@ fn help_is_given() {
     }
 }
 
+/// Every exit status stands in the help, in the words that the program's own comment has for it.
+#[test]
+fn exit_statuses() {
+    let source = include_str!("../../src/main.rs").replace("\n//! ", " ");
+    let (_, comment) = source.split_once("Exit status: ").expect("the comment tells them");
+    let (comment, _) = comment.split_once(". ").expect("a sentence ends");
+    let help = run::line("--help").out;
+    let (_, help) = help.split_once("Exit status:\n").expect("the help tells them");
+    let help: Vec<String> = help.lines().map(|line| line.trim().replacen("  ", " ", 1)).collect();
+    assert_eq!(help, comment.split("; ").collect::<Vec<&str>>());
+    let numbers: Vec<&str> = help.iter().filter_map(|line| line.split(' ').next()).collect();
+    assert_eq!(numbers, ["0", "1", "2", "3"]);
+}
+
 /// Each subcommand's help has an example, which works. That of `bench` would build and measure.
 #[test]
 fn examples_work() {

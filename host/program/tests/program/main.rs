@@ -19,6 +19,7 @@ mod bad_sessions;
 mod benchmark;
 mod beside;
 mod checked;
+mod columns;
 mod demo;
 mod differences;
 mod events;
