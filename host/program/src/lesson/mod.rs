@@ -50,7 +50,7 @@ struct Words {
     #[arg(long, value_name = "OUT.svg")]
     plot: Option<PathBuf>,
 
-    /// Draw the lanes of all channels, not of those alone that are listed or pulse
+    /// Draw a lane for every channel, also for those that are neither listed nor pulse
     #[arg(long, requires = "plot")]
     all_lanes: bool,
 }

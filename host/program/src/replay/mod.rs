@@ -63,7 +63,7 @@ pub struct Replay {
     #[arg(long, value_name = "Q.toml", conflicts_with = "calls")]
     against: Option<Source>,
 
-    /// List all differences of the two units, not the first twenty of each kind alone
+    /// List every difference of the two units, not only the first twenty of each kind
     #[arg(long, requires = "against")]
     all: bool,
 
@@ -89,7 +89,7 @@ pub struct Replay {
     #[arg(long, value_name = "OUT.svg")]
     plot: Option<PathBuf>,
 
-    /// Draw the lanes of all channels, not of those alone that are listed or pulse
+    /// Draw a lane for every channel, also for those that are neither listed nor pulse
     #[arg(long, requires = "plot")]
     all_lanes: bool,
 

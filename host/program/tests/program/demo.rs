@@ -26,6 +26,10 @@ fn case_12_on_two_units() {
     assert!(trace.contains("02 64 00 00 00 01 C8 00 28 02 73 00 00 00 03 2C 01 1E 02 91 00 00 00"));
     assert!(trace.ends_with("03 FF 00 00 00 02\n"));
     assert!(folder.text("demo-strict.trace").ends_with("03 9B 00 00 00 02\n"));
+    let picture = folder.text("demo.svg");
+    for title in ["lax: case 12, watchdog 25.0 ms", "strict: case 12, watchdog 15.0 ms"] {
+        assert!(picture.lines().any(|line| line == title), "{title}");
+    }
 }
 
 /// It can be run again, over its own files.
