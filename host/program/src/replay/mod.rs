@@ -80,8 +80,8 @@ pub struct Replay {
     #[arg(long, value_name = "OUT.csv")]
     events: Option<PathBuf>,
 
-    /// Print the ring's bytes in hex in a last line, for each unit: a comment of the CSV, in JSON
-    /// and in the events a value of the end
+    /// Print the ring's bytes in hex in a last line, for each unit; the sheet has them as a comment,
+    /// and the events have them at their end
     #[arg(long)]
     readout: bool,
 
