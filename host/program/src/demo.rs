@@ -3,7 +3,7 @@
 use crate::against::Against;
 use crate::course::Courses;
 use crate::failure::{Failure, Out};
-use crate::output::Planned;
+use crate::output::Outputs;
 use crate::session::Session;
 use crate::{hex, story};
 use clap::Args;
@@ -40,8 +40,9 @@ impl Demo {
     pub fn run(self, out: Out) -> Result<(), Failure> {
         let session = Session::of_text(SESSION, Path::new("case 12"))?;
         let [lax, strict] = TRACES.map(Path::new);
-        let traces = [Planned::new(lax)?, Planned::new(strict)?];
-        let picture = Planned::new(Path::new(PICTURE))?;
+        let mut outputs = Outputs::new([]);
+        let traces = [outputs.plan(lax)?, outputs.plan(strict)?];
+        let picture = outputs.plan(Path::new(PICTURE))?;
         let mut guards = [LAX, STRICT].map(|profile| {
             Guard::new(profile, CAPACITY).expect("the profile and the capacity are good")
         });
@@ -63,9 +64,9 @@ impl Demo {
 
         for ((planned, name), guard) in traces.into_iter().zip(NAMES).zip(&guards) {
             let trace = hex::spelt(&guard.trace());
-            planned.write(format!("# case 12, {name} unit\n{trace}\n").as_bytes())?;
+            planned.put(&format!("# case 12, {name} unit\n{trace}\n"), out)?;
         }
-        picture.write(courses.drawn(&TITLES, session.end(), false).as_bytes())?;
+        picture.put(&courses.drawn(&TITLES, session.end(), false), out)?;
         writeln!(out)?;
         writeln!(out, "Written: {PICTURE} (the picture), {} (the traces;", TRACES.join(" and "))?;
         writeln!(out, "`yarrowbell trace {}` tells what is in one).", TRACES[0])?;

@@ -28,6 +28,11 @@ impl Source {
         self.0.as_os_str() == "-"
     }
 
+    /// As it was named.
+    pub fn path(&self) -> &Path {
+        &self.0
+    }
+
     /// What errors call it.
     pub fn name(&self) -> &Path {
         if self.is_standard_input() {

@@ -8,7 +8,7 @@ mod wrong;
 
 use crate::course::Courses;
 use crate::failure::{Failure, Out};
-use crate::output::Planned;
+use crate::output::Outputs;
 use clap::{Args, Subcommand};
 use std::path::PathBuf;
 
@@ -65,7 +65,7 @@ struct Drawn {
 impl Lesson {
     pub fn run(self, out: Out) -> Result<(), Failure> {
         let (Of::Ring(words) | Of::Fields(words) | Of::Limits(words)) = &self.of;
-        let plot = words.plot.as_deref().map(Planned::new).transpose()?;
+        let plot = words.plot.as_deref().map(|path| Outputs::new([]).plan(path)).transpose()?;
         let drawn = match self.of {
             Of::Ring(_) => ring::teach(out)?,
             Of::Fields(_) => fields::teach(out)?,
@@ -73,7 +73,7 @@ impl Lesson {
         };
         if let Some(plot) = plot {
             let picture = drawn.courses.drawn(&drawn.titles, drawn.end, words.all_lanes);
-            plot.write(picture.as_bytes())?;
+            plot.put(&picture, out)?;
         }
         Ok(())
     }

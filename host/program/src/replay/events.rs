@@ -4,7 +4,7 @@ use super::line::Line;
 use crate::course::Event;
 use crate::failure::{Failure, Out};
 use crate::json;
-use crate::output::Planned;
+use crate::output::Output;
 use crate::play::{play, Step};
 use crate::progress::Progress;
 use crate::session::Session;
@@ -17,7 +17,7 @@ pub trait Lines {
 }
 
 /// Its head is written before the first line.
-impl Lines for csv::Writer<Planned> {
+impl Lines for csv::Writer<Output> {
     fn put(&mut self, line: &Line) -> Result<(), Failure> {
         Ok(self.serialize(line)?)
     }
@@ -36,16 +36,17 @@ pub struct Events<'a, L> {
     lines: L,
 }
 
-impl<'a> Events<'a, csv::Writer<Planned>> {
+impl<'a> Events<'a, csv::Writer<Output>> {
     /// In a file, which is there when it is finished.
-    pub fn in_file(names: &'a [&'a str], file: Planned) -> Self {
+    pub fn in_file(names: &'a [&'a str], file: Output) -> Self {
         Events::begin(names, csv::Writer::from_writer(file))
     }
 
-    pub fn finish(mut self) -> Result<(), Failure> {
+    /// Behind what was printed, if both go to one place.
+    pub fn finish(mut self, out: Out) -> Result<(), Failure> {
         self.lines.flush()?;
         let file = self.lines.into_inner().unwrap_or_else(|_| unreachable!("nothing waits"));
-        Ok(file.finish()?)
+        file.finish(out)
     }
 }
 

@@ -8,7 +8,7 @@ use crate::against::Against;
 use crate::course::Courses;
 use crate::failure::{BadInput, Failure, Out};
 use crate::input::{self, Source};
-use crate::output::Planned;
+use crate::output::Outputs;
 use crate::picture::title;
 use crate::play::Step;
 use crate::session::Session;
@@ -16,7 +16,7 @@ use crate::unit::Unit;
 use crate::{hex, number, profile, story};
 use clap::Args;
 use events::Events;
-use std::path::PathBuf;
+use std::path::{Path, PathBuf};
 use yarrowbell::{Guard, Profile};
 
 /// The names of two units beside each other, in words and in the events.
@@ -116,8 +116,9 @@ impl Replay {
         let second = second.transpose()?;
         let guards = [first].into_iter().chain(second).map(|profile| self.guard(profile));
         let mut guards = guards.collect::<Result<Vec<Guard>, BadInput>>()?;
-        let plot = self.plot.as_deref().map(Planned::new).transpose()?;
-        let file = self.events.as_deref().map(Planned::new).transpose()?;
+        let mut outputs = Outputs::new(self.inputs());
+        let plot = self.plot.as_deref().map(|path| outputs.plan(path)).transpose()?;
+        let file = self.events.as_deref().map(|path| outputs.plan(path)).transpose()?;
         let (names, short): (&[&str], &[&str]) =
             if guards.len() == 1 { (&["unit"], &["unit"]) } else { (&NAMES, &SHORT) };
 
@@ -155,11 +156,10 @@ impl Replay {
             self.print_readouts(&guards, out)?;
         }
         if let Some(events) = file {
-            events.finish()?;
+            events.finish(out)?;
         }
         if let Some(plot) = plot {
-            let picture = courses.drawn(&self.titles(), session.end(), self.all_lanes);
-            plot.write(picture.as_bytes())?;
+            plot.put(&courses.drawn(&self.titles(), session.end(), self.all_lanes), out)?;
         }
         Ok(())
     }
@@ -186,6 +186,13 @@ impl Replay {
             writeln!(out, "{}", line.trim_end())?;
         }
         Ok(())
+    }
+
+    /// The files that it reads.
+    fn inputs(&self) -> impl Iterator<Item = (&str, &Path)> {
+        let files = [Some(&self.session), self.profile.as_ref(), self.against.as_ref()];
+        let named = ["the session", "the profile", "the second profile"].into_iter().zip(files);
+        named.filter_map(|(what, file)| Some((what, file?.path())))
     }
 
     fn guard(&self, profile: Profile) -> Result<Guard, BadInput> {

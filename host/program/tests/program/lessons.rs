@@ -202,7 +202,7 @@ fn plots_refused() {
     for name in LESSONS {
         let missing = "none/l.svg: cannot be written: No such file or directory (os error 2)";
         folder.refuses(&format!("lesson {name} --plot none/l.svg"), missing);
-        let none = "..: cannot be written: this names no file";
+        let none = "..: cannot be written: this is a directory";
         folder.refuses(&format!("lesson {name} --plot .."), none);
     }
 }

@@ -30,6 +30,7 @@ mod lessons;
 mod marks;
 mod memories;
 mod misspelt;
+mod outputs;
 mod pages;
 mod papers;
 mod pipes;

@@ -23,9 +23,13 @@ pub fn words_in<W: AsRef<OsStr>>(folder: &Path, words: &[W]) -> Ran {
 
 /// Runs the program in a folder, with this on standard input.
 pub fn fed<W: AsRef<OsStr>>(folder: &Path, words: &[W], input: &[u8]) -> Ran {
-    let mut child = Command::new(env!("CARGO_BIN_EXE_yarrowbell"))
-        .current_dir(folder)
-        .args(words)
+    let mut program = Command::new(env!("CARGO_BIN_EXE_yarrowbell"));
+    command(program.current_dir(folder).args(words), input)
+}
+
+/// Runs a command that ends with what the program came to, with this on standard input.
+pub fn command(command: &mut Command, input: &[u8]) -> Ran {
+    let mut child = command
         .stdin(Stdio::piped())
         .stdout(Stdio::piped())
         .stderr(Stdio::piped())
