@@ -2,14 +2,14 @@
 
 use crate::run;
 
-/// A ring of 4,096 bytes full of trips at the last clock.
+/// A ring of 4,096 bytes full of answers at the last clock.
 #[test]
 fn trace() {
-    let out = run::printed(&format!("trace {}", "03FFFFFFFF02".repeat(682)));
+    let out = run::printed(&format!("trace {}", "01FFFFFFFF0003".repeat(585)));
     let lines: Vec<&str> = out.lines().collect();
     assert_eq!(lines[0], "  at       clock          ms  record");
-    assert_eq!(lines[1], "   0  4294967295 429496729.5  trip    cause 2: watchdog");
-    assert_eq!(lines[682], "4086  4294967295 429496729.5  trip    cause 2: watchdog");
+    assert_eq!(lines[1], "   0  4294967295 429496729.5  answer  Ident 0 (Init), answer 3: wrong check");
+    assert_eq!(lines[585], lines[1].replace("   0", "4088"));
 }
 
 /// The numbers end where that of all calls ends.

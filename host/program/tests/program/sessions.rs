@@ -137,7 +137,7 @@ fn files_of_other_systems() {
 fn nothing_sent() {
     let folder = Folder::new("nothing_sent").with("none.session", "# nothing\n").with("empty", "");
     for file in ["none.session", "empty"] {
-        let story = "     clock           ms  unit
+        let story = "     clock          ms  unit
 
 unit: idle at clock 0; commands 0, pulses 0, trips 0
 ";
