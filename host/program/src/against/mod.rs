@@ -1,5 +1,6 @@
 //! Two units beside each other: where they differ, and demand 3.
 
+mod json;
 mod listed;
 mod trips;
 
@@ -106,6 +107,11 @@ impl Against {
         }
     }
 
+    /// The clock of the first pulse of the second that the first does not release.
+    fn unreleased(&self) -> Option<u32> {
+        self.pulses[1].first().map(|pulse| pulse.clock)
+    }
+
     /// The units differ at this clock.
     fn differ(&mut self, clock: u32) {
         let (from, to) = self.between.unwrap_or((clock, clock));
@@ -134,12 +140,11 @@ impl Against {
                 writeln!(out, "So demand 3 promises neither of these.")?;
             }
         }
-        let broken = self.pulses[1].first().map(|pulse| pulse.clock);
         writeln!(
             out,
             "- Each pulse of {other} is released by {one} too, same clock, channel, width, current:"
         )?;
-        held(broken, self.released, "pulses", out)?;
+        held(self.unreleased(), self.released, "pulses", out)?;
         writeln!(out, "- From the start, or from a call by which {other} leaves the tripped state, until just")?;
         writeln!(out, "  before it next trips, all answers and pulses are equal:")?;
         held(self.broken, self.together, "calls", out)

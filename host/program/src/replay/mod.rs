@@ -149,10 +149,12 @@ impl Replay {
         if let Some(events) = &mut file {
             events.end(&ends, &units, self.readout)?;
         }
+        match &second {
+            Some(second) if self.json => against.print(&first, second, out)?,
+            Some(second) => against.tell(NAMES, &first, second, out)?,
+            None => (),
+        }
         if !self.json {
-            if let Some(second) = &second {
-                against.tell(NAMES, &first, second, out)?;
-            }
             self.print_readouts(&guards, out)?;
         }
         if let Some(events) = file {

@@ -8,8 +8,10 @@ mod to_session;
 
 use crate::failure::{Failure, Out};
 use crate::input::Source;
+use crate::output::Outputs;
 use crate::session::Session;
 use clap::Args;
+use std::path::PathBuf;
 
 /// Turn a script, commands in words, into a session file, or a session file into a script
 ///
@@ -37,6 +39,7 @@ Example of a script:
 
 Examples:
   yarrowbell session day1.script
+  yarrowbell session day1.script --out day1.session
   yarrowbell session --back case12.session")]
 pub struct Script {
     /// The script, or with --back the session file; - for standard input
@@ -46,6 +49,10 @@ pub struct Script {
     /// Turn a session file into a script
     #[arg(long)]
     back: bool,
+
+    /// Write it into this file instead of printing it
+    #[arg(long, value_name = "OUT")]
+    out: Option<PathBuf>,
 }
 
 impl Script {
@@ -55,6 +62,12 @@ impl Script {
         } else {
             to_session::session(&self.file.text()?, self.file.name())?
         };
-        Ok(out.write_all(turned.as_bytes())?)
+        match &self.out {
+            None => Ok(out.write_all(turned.as_bytes())?),
+            Some(path) => {
+                let read = if self.back { "the session" } else { "the script" };
+                Outputs::new([(read, self.file.path())]).plan(path)?.put(&turned, out)
+            }
+        }
     }
 }

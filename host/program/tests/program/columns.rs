@@ -8,7 +8,10 @@ fn trace() {
     let out = run::printed(&format!("trace {}", "01FFFFFFFF0003".repeat(585)));
     let lines: Vec<&str> = out.lines().collect();
     assert_eq!(lines[0], "  at       clock          ms  record");
-    assert_eq!(lines[1], "   0  4294967295 429496729.5  answer  Ident 0 (Init), answer 3: wrong check");
+    assert_eq!(
+        lines[1],
+        "   0  4294967295 429496729.5  answer  Ident 0 (Init), answer 3: wrong check"
+    );
     assert_eq!(lines[585], lines[1].replace("   0", "4088"));
 }
 

@@ -48,6 +48,36 @@ fn every_event() {
     assert_eq!(folder.names(), ["e.csv", "p.toml", "s"]);
 }
 
+/// They stand behind what is printed.
+#[test]
+fn on_standard_output() {
+    let folder = folder("events_on_standard_output");
+    let story = folder.line("replay s --profile p.toml").out;
+    let ran = folder.line("replay s --profile p.toml --events /dev/stdout");
+    assert_eq!((ran.status, ran.out), (0, story + LINES));
+}
+
+/// The report of two units is the last line.
+#[test]
+fn differences() {
+    let folder = folder("differences_as_json");
+    let last = |line: &str| -> Value {
+        let ran = folder.line(line);
+        assert_eq!((ran.status, ran.err.as_str()), (0, ""));
+        object(ran.out.lines().last().expect("a line")).into()
+    };
+    let strict = json!({
+        "event": "differences", "answers": 0, "pulses_only_first": 1, "pulses_only_second": 0,
+        "trips_only_first": 0, "trips_only_second": 1, "from_clock": 115, "to_clock": 115,
+        "looser": null, "sentence_1_broken_at": null, "sentence_2_broken_at": null,
+    });
+    assert_eq!(last("replay s --against p.toml --json"), strict);
+    folder.put("lax.toml", "");
+    let looser = last("replay s --profile p.toml --against lax.toml --json");
+    assert_eq!(looser["looser"], "the watchdog is 600000, the other's 110");
+    assert_eq!([&looser["sentence_1_broken_at"], &looser["pulses_only_second"]], [115, 1]);
+}
+
 /// Numbers are numbers, what there is not is null, and bytes are hex.
 #[test]
 fn as_json() {

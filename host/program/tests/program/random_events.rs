@@ -4,8 +4,9 @@ use crate::folder::Folder;
 use crate::independently::{played, text, toml, Call};
 use crate::objects::hex;
 use crate::seeded::seeded;
-use crate::table::Table;
+use crate::table::{object, Table};
 use rand::Rng;
+use serde_json::{Map, Value};
 use soak::sessions;
 
 /// The same file beside the story, the sheet and the JSON, and the JSON says the same; all of it is
@@ -57,7 +58,8 @@ fn random_pairs() {
         let ran = folder.line(&(line + "--against q.toml --json --readout --events e.csv"));
         assert_eq!((ran.status, ran.err.as_str()), (0, ""));
         let table = Table::of_csv(&folder.text("e.csv"));
-        assert_eq!(Table::of_json(&ran.out, &table.head), table);
+        let (events, differences) = last_line(&ran.out);
+        assert_eq!(Table::of_json(events, &table.head), table);
         let [(first, one), (second, other)] = profiles.map(|profile| played(&session, profile));
         let mut units = [Expected::new("first", &first), Expected::new("second", &second)];
         let mut rows = Vec::new();
@@ -73,8 +75,40 @@ fn random_pairs() {
         }
         agree(&table, &rows);
         apart += usize::from(units[0].totals[1] != units[1].totals[1]);
+        differ(&differences, &units, &first, &second);
     });
     assert!(apart > 20, "{apart} pairs apart show little");
+}
+
+/// The lines before the last, and the last.
+fn last_line(json: &str) -> (&str, Map<String, Value>) {
+    let end = json.trim_end().rfind('\n').map_or(0, |at| at + 1);
+    (&json[..end], object(&json[end..]))
+}
+
+/// The counts of the report are those of the calls. A trip that both have counts for none.
+fn differ(counts: &Map<String, Value>, units: &[Expected; 2], first: &[Call], second: &[Call]) {
+    let both = || first.iter().zip(second);
+    let said = |call: &Call| (call.said.answer, call.said.reply);
+    let answers = both().filter(|(one, other)| said(one) != said(other)).count();
+    let alone = both().filter(|(one, other)| one.pulse() != other.pulse());
+    let only_first = alone.clone().filter(|(one, _)| one.pulse().is_some()).count();
+    let only_second = alone.filter(|(_, other)| other.pulse().is_some()).count();
+    assert_eq!(counts["event"], "differences");
+    assert_eq!(counts["answers"], answers);
+    assert_eq!(counts["pulses_only_first"], only_first);
+    assert_eq!(counts["pulses_only_second"], only_second);
+    let trips = ["trips_only_first", "trips_only_second"].map(|key| counts[key].as_i64());
+    let [one, other] = trips.map(|count| count.expect("a number"));
+    assert_eq!(one - other, units[0].totals[2] as i64 - units[1].totals[2] as i64);
+    // The second profile is nowhere looser.
+    for key in ["looser", "sentence_1_broken_at", "sentence_2_broken_at"] {
+        assert_eq!(counts[key], Value::Null, "{key}");
+    }
+    assert_eq!(
+        counts["from_clock"].is_null(),
+        answers + only_first + only_second == 0 && one + other == 0
+    );
 }
 
 const COLUMNS: &str = "clock ms unit event bytes command answer reply channel width_us current_ma \
@@ -96,7 +130,7 @@ fn agree(table: &Table, rows: &[Vec<String>]) {
         assert_eq!(answer_words.is_empty(), answer.is_empty());
         let number = ["", "limit", "watchdog"].iter().position(|words| *words == cause_words);
         assert_eq!(number, Some(cause.parse().unwrap_or(0)));
-        assert!(reason.is_empty() || event == "command" && answer != "0");
+        assert_eq!(!reason.is_empty(), event == "command" && answer != "0");
     }
 }
 

@@ -45,6 +45,23 @@ fn a_script() {
     assert_eq!(story.out.lines().count(), 1 + 6 + 7 + 4 + 7 + 1 + 2 + 6 + 310);
 }
 
+#[test]
+fn into_a_file() {
+    let folder = Folder::new("into_a_file").with("day1.script", SCRIPT);
+    let ran = folder.line("session day1.script --out day1.session");
+    assert_eq!((ran.status, ran.out.as_str(), ran.err.as_str()), (0, "", ""));
+    assert_eq!(folder.text("day1.session"), SESSION);
+    folder.refuses(
+        "session day1.script --out day1.script",
+        "day1.script: cannot be written: it is the script that is read",
+    );
+    folder.refuses(
+        "session --back day1.session --out day1.session",
+        "day1.session: cannot be written: it is the session that is read",
+    );
+    assert_eq!([folder.text("day1.script"), folder.text("day1.session")], [SCRIPT, SESSION]);
+}
+
 /// The script in the help.
 #[test]
 fn the_example() {
