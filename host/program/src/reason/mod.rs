@@ -78,6 +78,7 @@ impl Reason {
             Reason::Current { current, largest, .. } => current > largest,
             Reason::Width { width, largest, .. } => width > largest,
             Reason::Charge { current, width, largest, .. } => charge(current, width) > largest,
+            // They have no numbers to break a rule: they are the state itself.
             Reason::NoList | Reason::Tripped(_) => true,
         }
     }

@@ -9,7 +9,7 @@ use crate::reason::{Reason, Trip};
 use crate::unit::Call;
 use yarrowbell::{Answer, Cause, State, Told};
 
-/// The words of the longest reasons.
+/// Those of the most words.
 const REASONS: [Reason; 7] = [
     Reason::Value { channel: None, field: Field::MainTime, value: 2047 },
     Reason::Value { channel: Some(8), field: Field::PulseWidth, value: 511 },
@@ -31,13 +31,13 @@ fn event(what: What) -> Event {
     Event { clock: u32::MAX, state: State::Tripped, what }
 }
 
-/// All that can come about, at the last clock.
-fn done() -> Done {
+/// All that can come about, at the last clock, in a unit that had this list.
+fn done(listed: u8) -> Done {
     let told =
         Told { answer: Answer::WhileTripped, reply: Some(0x40), pulses: [None; 2], trip: None };
     let decided = Decided {
         bytes: update(),
-        listed: 0xFF,
+        listed,
         answer: told.answer,
         reply: 0x40,
         reasons: REASONS.to_vec(),
@@ -52,18 +52,18 @@ fn done() -> Done {
     Done { told, state: State::Tripped, events: events.into_iter().map(event).collect() }
 }
 
-/// The story of so many units, without its head.
-fn story(units: usize) -> String {
-    let table = Table::of(units);
-    let of = (0..units).map(|_| done()).collect();
-    let ends = vec![Some(event(What::Unfinished(update()))); units];
+/// The story of units that had these lists, without its head.
+fn story(lists: &[u8]) -> String {
+    let table = Table::of(lists.len());
+    let of = lists.iter().map(|listed| done(*listed)).collect();
+    let ends = vec![Some(event(What::Unfinished(update()))); lists.len()];
     let step = Step { call: Call::Byte(0x7F), clock: u32::MAX, of };
     told::step(&step, &table) + &told::end(&ends, &table)
 }
 
 #[test]
 fn one_unit() {
-    let story = story(1);
+    let story = story(&[0xFF]);
     assert!(story.starts_with("4294967295 429496729.5  > A8 43 74 7F "), "{story}");
     for line in story.lines() {
         assert!(line.chars().count() <= 100, "{line}");
@@ -77,7 +77,7 @@ fn one_unit() {
 /// Both do the same, so that both columns have the same lines.
 #[test]
 fn two_units() {
-    let story = story(2);
+    let story = story(&[0xFF; 2]);
     for line in story.lines() {
         assert!(line.chars().count() <= 24 + 42 + 2 + 42, "{line}");
     }
@@ -89,4 +89,14 @@ fn two_units() {
         assert_eq!([cut(24, 42), cut(66, 2)], [cut(68, 42), String::new()], "{line}");
     }
     assert!(cells.len() > 20, "{story}");
+}
+
+/// Channels are named by a list that all units had, and that has as many as the Update.
+#[test]
+fn channels() {
+    let named = |lists| story(lists).contains("channel 8 triplet 500 µs 127 mA");
+    assert!(named(&[0xFF]) && named(&[0xFF; 2]));
+    for lists in [&[0x7F][..], &[0x00], &[0xFF, 0x00], &[0x7F, 0xFF]] {
+        assert!(!named(lists) && story(lists).contains("triplet 500 µs 127 mA;"), "{lists:?}");
+    }
 }

@@ -1,6 +1,7 @@
 //! Why commands are refused, in the words of the story.
 
 use crate::folder::Folder;
+use crate::run;
 
 /// The session on a unit of this profile: the story up to its totals, without its head.
 fn tells(session: &str, profile: &str, story: &str) {
@@ -319,4 +320,20 @@ fn two_units() {
                             4 bytes)                                    4 bytes)
 ";
     assert_eq!(told, story.trim_end());
+}
+
+/// An Init that breaks both timing rules is read and written, and what every unit makes of it is said.
+#[test]
+fn an_init_that_every_unit_refuses() {
+    let rules = [
+        "every unit refuses this Init with answer 5: t2 55 is below 15·4 = 60 tenths of a ms: \
+         4 channels in each module",
+        "every unit refuses this Init with answer 5: t1 30 is below 1·55 + 15 = 70 tenths of a ms: \
+         n·t2 + 15, n the largest Mode plus 1",
+    ];
+    let ends = ["bytes used 6", "answer 0: good frame, reply 01", rules[0], rules[1]];
+    run::ends("read 8C 3F 60 01 00 04", &ends);
+    let ran = run::line("write init --channels 1,2,3,4,5,6,7,8 --group-time 8 --main-time 4");
+    assert_eq!((ran.status, ran.out.as_str()), (0, "8C 3F 60 01 00 04\n"));
+    assert_eq!(ran.err, format!("{}\n{}\n", rules[0], rules[1]));
 }

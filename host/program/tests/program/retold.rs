@@ -2,7 +2,7 @@
 
 use crate::independently::Call;
 use crate::rows::Row;
-use crate::why::{channels, reasons, Trip};
+use crate::why::{channels, named, reasons, Trip};
 use independent::{read, Command, Init, Setting};
 use yarrowbell::Answer;
 
@@ -153,15 +153,13 @@ fn command(frame: &[u8], listed: u8) -> String {
 }
 
 fn list(init: &Init) -> String {
-    let spelt = |bits| channels(bits).iter().map(u8::to_string).collect::<Vec<String>>().join(", ");
     let halves = |halves: u16| f64::from(halves) / 2.0;
     let (t1, t2) = (halves(init.main_time + 2), halves(u16::from(init.group_time) + 3));
     let skips = init.n_factor;
-    let low = match init.channel_lf {
-        0 => String::new(),
-        bits => format!(", low frequency {} skipping {skips} of {}", spelt(bits), skips + 1),
+    let low: Vec<String> = channels(init.channel_lf).iter().map(u8::to_string).collect();
+    let low = match &low[..] {
+        [] => String::new(),
+        low => format!(", low frequency {} skipping {skips} of {}", low.join(", "), skips + 1),
     };
-    let listed = init.channel_stim;
-    let name = if listed.is_power_of_two() { "channel" } else { "channels" };
-    format!("{name} {}, t1 {t1:.1} ms, t2 {t2:.1} ms{low}", spelt(listed))
+    format!("{}, t1 {t1:.1} ms, t2 {t2:.1} ms{low}", named(init.channel_stim))
 }

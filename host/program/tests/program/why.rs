@@ -1,7 +1,7 @@
 //! Why a command is refused, from the independent codec and machine, in the program's words.
 
 use independent::plain::machine::{BoxRecord, Profile};
-use independent::{read, Bit, Command, Init, Layout, Variable, LAYOUTS};
+use independent::{read, Bit, Command, Init, Layout, Setting, Variable, LAYOUTS};
 
 /// The clock and the cause of a trip: 1 limit, 2 watchdog.
 pub type Trip = (u32, u8);
@@ -10,67 +10,22 @@ pub type Trip = (u32, u8);
 /// tripped so.
 pub fn reasons(before: &BoxRecord, frame: &[u8], answer: u8, trip: Option<Trip>) -> Vec<String> {
     let list = &before.run.list;
-    let listed = channels(list.channel_stim);
     match answer {
-        3 => {
-            let (is, says) = checks(frame);
-            vec![format!("the check is {is}, the frame says {says}")]
-        }
-        4 => not_good(frame, &listed),
+        3 => vec![check(frame)],
+        4 => not_good(frame, &channels(list.channel_stim)),
         5 => match command(frame) {
             Command::Init(init) => timing(&init),
             Command::Update(settings) => {
-                let largest = settings.iter().map(|setting| setting.mode).max();
-                second_rule(list, u32::from(largest.expect("eight")) + 1).into_iter().collect()
+                let largest = settings.map(|setting| setting.mode).into_iter().max().expect("one");
+                second_rule(list, u32::from(largest) + 1).into_iter().collect()
             }
             other => panic!("{other:?}"),
         },
         6 => vec!["no list runs".to_owned()],
-        7 => {
-            let spelt: Vec<String> = listed.iter().map(u8::to_string).collect();
-            let name = if spelt.len() == 1 { "channel" } else { "channels" };
-            vec![format!("a list runs, of {name} {}", spelt.join(", "))]
-        }
-        8 => {
-            let Command::Single(single) = command(frame) else { panic!("{frame:02X?}") };
-            let (module, left) = match single.channel_number {
-                0..=3 => ("A (channels 1 to 4)", before.hold_a),
-                _ => ("B (channels 5 to 8)", before.hold_b),
-            };
-            let ticks = if left == 1 { "tick" } else { "ticks" };
-            let time = f64::from(left) / 10.0;
-            vec![format!("module {module} is in a hold for {left} more {ticks} ({time:.1} ms)")]
-        }
-        9 => match command(frame) {
-            Command::Init(init) => {
-                let (t1, shortest) = (t1(&init), before.profile.shortest);
-                let [is, least] = [t1, shortest].map(|tenths| f64::from(tenths) / 10.0);
-                vec![format!(
-                    "t1 {t1} ({is:.1} ms) is below the shortest t1 {shortest} ({least:.1} ms)"
-                )]
-            }
-            Command::Update(settings) => listed
-                .iter()
-                .zip(settings)
-                .flat_map(|(&channel, one)| {
-                    over(&before.profile, channel, one.pulse_width, one.pulse_current)
-                })
-                .collect(),
-            Command::Single(one) => {
-                let channel = one.channel_number + 1;
-                over(&before.profile, channel, one.pulse_width, one.pulse_current)
-            }
-            Command::Stop => panic!("a Stop is over no limit"),
-        },
-        10 => {
-            let (clock, cause) = trip.expect("it has tripped");
-            let cause = ["limit", "watchdog"][usize::from(cause) - 1];
-            vec![format!(
-                "the box is tripped since clock {clock} ({:.1} ms), cause: {cause}, and only Init \
-                 and Stop lead out",
-                f64::from(clock) / 10.0
-            )]
-        }
+        7 => vec![format!("a list runs, of {}", named(list.channel_stim))],
+        8 => vec![hold(before, &command(frame))],
+        9 => limits(before, &command(frame)),
+        10 => vec![tripped(trip.expect("it has tripped"))],
         other => panic!("{other} is no refusal"),
     }
 }
@@ -113,9 +68,60 @@ pub fn channels(bits: u8) -> Vec<u8> {
     (1..=8).filter(|channel| bits >> (channel - 1) & 1 == 1).collect()
 }
 
+/// The same in words.
+pub fn named(bits: u8) -> String {
+    let spelt: Vec<String> = channels(bits).iter().map(u8::to_string).collect();
+    let name = if spelt.len() == 1 { "channel" } else { "channels" };
+    format!("{name} {}", spelt.join(", "))
+}
+
 /// The command of a good frame.
 fn command(frame: &[u8]) -> Command {
     read(frame, (frame.len() - 1) / 3).expect("3 and 4 come before").command
+}
+
+fn hold(before: &BoxRecord, command: &Command) -> String {
+    let Command::Single(single) = command else { panic!("{command:?}") };
+    let (module, left) = match single.channel_number {
+        0..=3 => ("A (channels 1 to 4)", before.hold_a),
+        _ => ("B (channels 5 to 8)", before.hold_b),
+    };
+    let ticks = if left == 1 { "tick" } else { "ticks" };
+    format!("module {module} is in a hold for {left} more {ticks} ({} ms)", ms(left.into()))
+}
+
+fn tripped((clock, cause): Trip) -> String {
+    let cause = ["limit", "watchdog"][usize::from(cause) - 1];
+    let since = format!("the box is tripped since clock {clock} ({} ms)", ms(clock));
+    format!("{since}, cause: {cause}, and only Init and Stop lead out")
+}
+
+/// Tenths of a millisecond in milliseconds.
+fn ms(tenths: u32) -> String {
+    format!("{:.1}", f64::from(tenths) / 10.0)
+}
+
+/// All limits that a command is over.
+fn limits(before: &BoxRecord, command: &Command) -> Vec<String> {
+    let profile = &before.profile;
+    match command {
+        Command::Init(init) => {
+            let (t1, shortest) = (t1(init), profile.shortest);
+            let [is, least] = [t1, shortest].map(ms);
+            vec![format!("t1 {t1} ({is} ms) is below the shortest t1 {shortest} ({least} ms)")]
+        }
+        Command::Update(settings) => {
+            let settings = channels(before.run.list.channel_stim).into_iter().zip(settings);
+            let of = |(channel, one): (u8, &Setting)| {
+                over(profile, channel, one.pulse_width, one.pulse_current)
+            };
+            settings.flat_map(of).collect()
+        }
+        Command::Single(one) => {
+            over(profile, one.channel_number + 1, one.pulse_width, one.pulse_current)
+        }
+        Command::Stop => panic!("a Stop is over no limit"),
+    }
 }
 
 /// The limits that a pulse is over.
@@ -161,12 +167,12 @@ fn layout(frame: &[u8]) -> &'static Layout {
 }
 
 /// The check that a frame should have, and the one that it has.
-fn checks(frame: &[u8]) -> (u32, u32) {
-    let sum = |check: bool| -> u32 {
-        let of = values(frame).into_iter().filter(|(_, of, _)| (*of == Variable::Check) == check);
-        of.map(|(_, _, number)| u32::from(number)).sum()
-    };
-    (sum(false) % layout(frame).modulus, sum(true))
+fn check(frame: &[u8]) -> String {
+    let (checks, others): (Vec<Value>, Vec<Value>) =
+        values(frame).into_iter().partition(|(_, of, _)| *of == Variable::Check);
+    let sum: u32 = others.iter().map(|(_, _, number)| u32::from(*number)).sum();
+    let (is, (_, _, says)) = (sum % layout(frame).modulus, checks[0]);
+    format!("the check is {is}, the frame says {says}")
 }
 
 fn not_good(frame: &[u8], listed: &[u8]) -> Vec<String> {
@@ -183,24 +189,24 @@ fn not_good(frame: &[u8], listed: &[u8]) -> Vec<String> {
     faults.collect()
 }
 
-/// "Good values: ..", for a number that is none.
+/// A number that is no good value.
 fn fault(variable: Variable, number: u16) -> Option<String> {
-    let (good, rule) = match variable {
-        Variable::ChannelStim => (number != 0, "Channel_Stim: a list has at least one channel"),
-        Variable::GroupTime => (
-            (3..=29).contains(&number),
-            "Group_Time: Group_Time is 3 to 29 (t2 from 3.0 to 16.0 ms)",
-        ),
-        Variable::MainTime => (
-            (4..=2045).contains(&number),
-            "Main_Time: Main_Time is 4 to 2045 (t1 from 3.0 to 1023.5 ms)",
-        ),
-        Variable::Mode => (number <= 2, "Mode: Mode is 0, 1 or 2"),
-        Variable::PulseWidth => (
-            number == 0 || (10..=500).contains(&number),
-            "Pulse_Width: a width is 0 or 10 to 500 µs",
-        ),
-        _ => (true, ""),
+    let (good, name, rule) = match variable {
+        Variable::ChannelStim => (number != 0, "Channel_Stim", "a list has at least one channel"),
+        Variable::GroupTime => {
+            let rule = "Group_Time is 3 to 29 (t2 from 3.0 to 16.0 ms)";
+            ((3..=29).contains(&number), "Group_Time", rule)
+        }
+        Variable::MainTime => {
+            let rule = "Main_Time is 4 to 2045 (t1 from 3.0 to 1023.5 ms)";
+            ((4..=2045).contains(&number), "Main_Time", rule)
+        }
+        Variable::Mode => (number <= 2, "Mode", "Mode is 0, 1 or 2"),
+        Variable::PulseWidth => {
+            let good = number == 0 || (10..=500).contains(&number);
+            (good, "Pulse_Width", "a width is 0 or 10 to 500 µs")
+        }
+        _ => return None,
     };
-    (!good).then(|| rule.replacen(':', &format!(" {number}:"), 1))
+    (!good).then(|| format!("{name} {number}: {rule}"))
 }
