@@ -5,7 +5,7 @@ mod files;
 use crate::against::Against;
 use crate::course::Courses;
 use crate::failure::{BadInput, Failure, Out};
-use crate::output::{Output, Outputs};
+use crate::output::{Leaving, Output, Outputs};
 use crate::session::Session;
 use crate::{hex, story};
 use clap::Args;
@@ -57,6 +57,7 @@ impl Demo {
             Guard::new(profile, CAPACITY).expect("the profile and the capacity are good")
         });
 
+        let out: Out = &mut Leaving::new(out, true);
         tell_files(out)?;
         writeln!(out, "Document 01's case 12 on two guard units:")?;
         writeln!(out, "  lax     limits at their loosest, watchdog 25.0 ms")?;

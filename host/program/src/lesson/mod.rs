@@ -8,7 +8,7 @@ mod wrong;
 
 use crate::course::Courses;
 use crate::failure::{Failure, Out};
-use crate::output::Outputs;
+use crate::output::{Leaving, Outputs};
 use clap::{Args, Subcommand};
 use std::path::PathBuf;
 
@@ -66,6 +66,7 @@ impl Lesson {
     pub fn run(self, out: Out) -> Result<(), Failure> {
         let (Of::Ring(words) | Of::Fields(words) | Of::Limits(words)) = &self.of;
         let plot = words.plot.as_deref().map(|path| Outputs::new([]).plan(path)).transpose()?;
+        let out: Out = &mut Leaving::new(out, plot.is_some());
         let drawn = match self.of {
             Of::Ring(_) => ring::teach(out)?,
             Of::Fields(_) => fields::teach(out)?,

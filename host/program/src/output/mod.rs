@@ -3,6 +3,7 @@
 
 mod identity;
 mod known;
+mod leaving;
 mod outputs;
 mod place;
 mod refusal;
@@ -18,6 +19,7 @@ use std::fs::File;
 use std::io::{self, ErrorKind, Write};
 use std::path::{Path, PathBuf};
 
+pub use leaving::Leaving;
 pub use outputs::Outputs;
 
 /// A file that is being written. Dropped before it is finished, it leaves nothing, and what stood

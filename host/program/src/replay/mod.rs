@@ -8,7 +8,7 @@ use crate::against::Against;
 use crate::course::Courses;
 use crate::failure::{BadInput, Failure, Out};
 use crate::input::{self, Source};
-use crate::output::Outputs;
+use crate::output::{Leaving, Outputs};
 use crate::picture::title;
 use crate::play::Step;
 use crate::session::Session;
@@ -122,6 +122,7 @@ impl Replay {
         let (names, short): (&[&str], &[&str]) =
             if guards.len() == 1 { (&["unit"], &["unit"]) } else { (&NAMES, &SHORT) };
 
+        let out: Out = &mut Leaving::new(out, plot.is_some() || file.is_some());
         let mut courses = Courses::of(guards.len());
         let mut against = Against::listing(self.all);
         let mut file = file.map(|file| Events::in_file(short, file));

@@ -26,6 +26,10 @@ impl Folder {
         fs::write(self.0.join(name), content).expect("the folder can be written");
     }
 
+    pub fn remove(&self, name: &str) {
+        fs::remove_file(self.0.join(name)).unwrap_or_else(|error| panic!("{name}: {error}"));
+    }
+
     pub fn path(&self) -> &Path {
         &self.0
     }

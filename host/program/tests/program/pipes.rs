@@ -20,6 +20,36 @@ fn closed_before() {
     }
 }
 
+/// Files that were asked for are written all the same, and are whole.
+#[test]
+fn files_are_written() {
+    let list = "0 88 01 20 00 30 12\n5 BB 01 48 28 22 2C 1E\n20000 end\n";
+    let folder = Folder::new("files_are_written").with("s", list);
+    for (line, files) in [
+        ("replay s --plot p.svg --events e.csv", &["p.svg", "e.csv"][..]),
+        ("replay s --calls --plot p.svg", &["p.svg"]),
+        ("replay s --json --events e.csv", &["e.csv"]),
+        ("lesson ring --plot p.svg", &["p.svg"]),
+        ("demo", &["demo.svg", "demo-lax.trace", "demo-strict.trace"]),
+    ] {
+        assert_eq!(folder.line(line).status, 0, "{line}");
+        let whole: Vec<String> = files.iter().map(|name| folder.text(name)).collect();
+        files.iter().for_each(|name| folder.remove(name));
+        let (here, there) = UnixStream::pair().expect("two ends");
+        drop(here);
+        let output = Command::new(env!("CARGO_BIN_EXE_yarrowbell"))
+            .current_dir(folder.path())
+            .args(line.split(' '))
+            .stdout(Stdio::from(OwnedFd::from(there)))
+            .output()
+            .expect("the program starts");
+        assert_eq!((output.status.code(), output.stderr), (Some(0), Vec::new()), "{line}");
+        for (name, whole) in files.iter().zip(whole) {
+            assert!(folder.text(name) == whole, "{line}: {name}");
+        }
+    }
+}
+
 #[test]
 fn closed_after_a_line() {
     let list = "0 88 01 20 00 30 12\n5 BB 01 48 28 22 2C 1E\n100000 end\n";
