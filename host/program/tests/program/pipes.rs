@@ -6,17 +6,24 @@ use std::os::fd::OwnedFd;
 use std::os::unix::net::UnixStream;
 use std::process::{Command, Stdio};
 
+/// Runs the program in a folder with a reader who has gone before.
+fn unread(folder: &Folder, line: &str) {
+    let (here, there) = UnixStream::pair().expect("two ends");
+    drop(here);
+    let output = Command::new(env!("CARGO_BIN_EXE_yarrowbell"))
+        .current_dir(folder.path())
+        .args(line.split(' '))
+        .stdout(Stdio::from(OwnedFd::from(there)))
+        .output()
+        .expect("the program starts");
+    assert_eq!((output.status.code(), output.stderr), (Some(0), Vec::new()), "{line}");
+}
+
 #[test]
 fn closed_before() {
-    for words in [["read", "C0"], ["write", "stop"], ["trace", "030000000001"]] {
-        let (here, there) = UnixStream::pair().expect("two ends");
-        drop(here);
-        let output = Command::new(env!("CARGO_BIN_EXE_yarrowbell"))
-            .args(words)
-            .stdout(Stdio::from(OwnedFd::from(there)))
-            .output()
-            .expect("the program starts");
-        assert_eq!((output.status.code(), output.stderr), (Some(0), Vec::new()), "{words:?}");
+    let folder = Folder::new("closed_before");
+    for line in ["read C0", "write stop", "trace 030000000001"] {
+        unread(&folder, line);
     }
 }
 
@@ -35,15 +42,7 @@ fn files_are_written() {
         assert_eq!(folder.line(line).status, 0, "{line}");
         let whole: Vec<String> = files.iter().map(|name| folder.text(name)).collect();
         files.iter().for_each(|name| folder.remove(name));
-        let (here, there) = UnixStream::pair().expect("two ends");
-        drop(here);
-        let output = Command::new(env!("CARGO_BIN_EXE_yarrowbell"))
-            .current_dir(folder.path())
-            .args(line.split(' '))
-            .stdout(Stdio::from(OwnedFd::from(there)))
-            .output()
-            .expect("the program starts");
-        assert_eq!((output.status.code(), output.stderr), (Some(0), Vec::new()), "{line}");
+        unread(&folder, line);
         for (name, whole) in files.iter().zip(whole) {
             assert!(folder.text(name) == whole, "{line}: {name}");
         }
