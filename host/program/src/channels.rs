@@ -65,7 +65,7 @@ pub fn spelt(bits: u8) -> String {
 }
 
 /// The channels of these bits as an argument.
-pub fn listed(bits: u8) -> String {
+pub fn argument(bits: u8) -> String {
     joined(bits, ",")
 }
 

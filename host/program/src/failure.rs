@@ -1,7 +1,7 @@
 //! How a run can fail, and its exit status then.
 
 use std::fmt::Display;
-use std::io::{self, ErrorKind};
+use std::io::{self, ErrorKind, Write};
 use std::path::Path;
 use std::process::ExitCode;
 use thiserror::Error;
@@ -69,7 +69,12 @@ impl Failure {
             Failure::Input(_) => 2,
             Failure::Print(_) => 3,
         };
-        eprintln!("{self}");
+        say(self);
         ExitCode::from(status)
     }
+}
+
+/// Says it on standard error, whether or not somebody can hear it.
+pub fn say(words: impl Display) {
+    let _ = writeln!(io::stderr(), "{words}");
 }

@@ -1,8 +1,9 @@
 //! The program `yarrowbell`: what a bench engineer and a teacher use, over the proved library.
 //!
 //! Exit status: 0 done; 1 a difference found by soak or bench, or a frame refused under read --check;
-//! 2 bad input, and nothing done; 3 could not print, or ./yarrowbell could not build the program, or
-//! bench the benchmark. A reader who has gone, as behind a pipe, is no failure.
+//! 2 bad input, and nothing done, or a file that could not be written; 3 could not print, or
+//! ./yarrowbell could not build the program, or bench the benchmark. A reader who has gone, as behind
+//! a pipe, is no failure.
 
 mod against;
 mod bench;

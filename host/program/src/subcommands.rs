@@ -16,7 +16,7 @@ Each command has an example in its own help, as yarrowbell read --help.
 Exit status:
   0  done
   1  a difference found by soak or bench, or a frame refused under read --check
-  2  bad input, and nothing done
+  2  bad input, and nothing done, or a file that could not be written
   3  could not print, or ./yarrowbell could not build the program, or bench the benchmark"
 )]
 pub struct Arguments {

@@ -1,6 +1,6 @@
 //! The report of two units for scripts.
 
-use super::{Against, Listed};
+use super::{Against, Tally};
 use crate::failure::{Failure, Out};
 use crate::json;
 use serde::Serialize;
@@ -30,8 +30,8 @@ impl Against {
     /// Prints the report of two units of these profiles in a line.
     pub fn print(mut self, first: &Profile, second: &Profile, out: Out) -> Result<(), Failure> {
         self.end_clock();
-        let [pulses_only_first, pulses_only_second] = self.pulses.each_ref().map(Listed::count);
-        let [trips_only_first, trips_only_second] = self.trips.each_ref().map(Listed::count);
+        let [pulses_only_first, pulses_only_second] = self.pulses.each_ref().map(Tally::count);
+        let [trips_only_first, trips_only_second] = self.trips.each_ref().map(Tally::count);
         let line = Line {
             event: "differences",
             answers: self.answers.count(),

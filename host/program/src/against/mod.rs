@@ -1,7 +1,7 @@
 //! Two units beside each other: where they differ, and demand 3.
 
 mod json;
-mod listed;
+mod tally;
 mod trips;
 
 use crate::failure::{Failure, Out};
@@ -9,7 +9,7 @@ use crate::hex;
 use crate::play::Step;
 use crate::unit::Call;
 use crate::words::counted;
-use listed::Listed;
+use tally::Tally;
 use trips::Trips;
 use yarrowbell::{Cause, Profile, Released, State, Told};
 
@@ -17,10 +17,10 @@ use yarrowbell::{Cause, Profile, Released, State, Told};
 pub struct Against {
     /// The clocks of the first difference and of the last.
     between: Option<(u32, u32)>,
-    answers: Listed<Answers>,
+    answers: Tally<Answers>,
     /// What only the first unit has, and what only the second has.
-    pulses: [Listed<Released>; 2],
-    trips: [Listed<(u32, Cause)>; 2],
+    pulses: [Tally<Released>; 2],
+    trips: [Tally<(u32, Cause)>; 2],
     /// The trips of the clock that the units have come to.
     now: Trips,
     /// The pulses of the second, and the calls of which demand 3's second sentence speaks.
@@ -48,9 +48,9 @@ impl Against {
     pub fn listing(all: bool) -> Against {
         Against {
             between: None,
-            answers: Listed::new(all),
-            pulses: [Listed::new(all), Listed::new(all)],
-            trips: [Listed::new(all), Listed::new(all)],
+            answers: Tally::new(all),
+            pulses: [Tally::new(all), Tally::new(all)],
+            trips: [Tally::new(all), Tally::new(all)],
             now: Trips::default(),
             released: 0,
             together: 0,
@@ -152,8 +152,8 @@ impl Against {
 
     fn tell_differences(&self, names: [&str; 2], out: Out) -> Result<(), Failure> {
         let answers = counted(self.answers.count(), "answer");
-        let pulses = counted(self.pulses.iter().map(Listed::count).sum(), "pulse");
-        let trips = counted(self.trips.iter().map(Listed::count).sum(), "trip");
+        let pulses = counted(self.pulses.iter().map(Tally::count).sum(), "pulse");
+        let trips = counted(self.trips.iter().map(Tally::count).sum(), "trip");
         write!(out, "Differences: {answers}, {pulses}, {trips}")?;
         match self.between {
             Some((from, to)) if from < to => writeln!(out, " (clock {from} to {to})")?,

@@ -1,7 +1,7 @@
 //! The files that a run reads and writes. None of them is two.
 
 use super::identity::Identity;
-use super::refusal::Refusal;
+use super::not_writable::NotWritable;
 use super::standard;
 use std::fs::{self, Metadata};
 use std::io;
@@ -27,10 +27,10 @@ impl KnownFiles {
     }
 
     /// One that it writes, unless it reads or writes it already.
-    pub fn write(&mut self, path: &Path, identity: Option<Identity>) -> Result<(), Refusal> {
+    pub fn write(&mut self, path: &Path, identity: Option<Identity>) -> Result<(), NotWritable> {
         let Some(identity) = identity else { return Ok(()) };
         if let Some(known) = self.0.iter().find(|known| known.identity == identity) {
-            return Err(Refusal::Same(known.told(path)));
+            return Err(NotWritable::Same(known.told(path)));
         }
         let what = "another output".to_owned();
         self.0.push(Known { identity, what, path: path.to_owned() });

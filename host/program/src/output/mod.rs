@@ -4,9 +4,9 @@
 mod identity;
 mod known;
 mod leaving;
+mod not_writable;
 mod outputs;
 mod place;
-mod refusal;
 mod replacement;
 mod signals;
 mod standard;

@@ -2,8 +2,8 @@
 
 use super::identity::Identity;
 use super::known::KnownFiles;
+use super::not_writable::NotWritable;
 use super::place::{self, Place};
-use super::refusal::Refusal;
 use super::replacement::Replacement;
 use super::{cannot, standard, Output, To};
 use crate::failure::BadInput;
@@ -26,11 +26,11 @@ impl Outputs {
 
     /// A file that will be written. A path at which none can be is refused at once.
     pub fn plan(&mut self, path: &Path) -> Result<Output, BadInput> {
-        let to = self.to(path).map_err(|refusal| cannot(path, refusal))?;
+        let to = self.to(path).map_err(|why| cannot(path, why))?;
         Ok(Output { path: path.to_owned(), to })
     }
 
-    fn to(&mut self, path: &Path) -> Result<To, Refusal> {
+    fn to(&mut self, path: &Path) -> Result<To, NotWritable> {
         match Place::of(path)? {
             Place::Standard(file) => {
                 self.known.write(path, Identity::of(&file.metadata()?))?;
@@ -51,7 +51,7 @@ impl Outputs {
         }
     }
 
-    fn there(&mut self, path: &Path, target: PathBuf, is: &Metadata) -> Result<To, Refusal> {
+    fn there(&mut self, path: &Path, target: PathBuf, is: &Metadata) -> Result<To, NotWritable> {
         can_be_written(is)?;
         let identity = Identity::of(is);
         no_standard_stream(&identity)?;
@@ -59,18 +59,18 @@ impl Outputs {
         // Of a pipe that no one reads yet, this waits for the reader.
         let file = File::options().write(true).open(&target)?;
         if is.is_file() {
-            let replacement = Replacement::of(file, target).map_err(Refusal::Beside)?;
+            let replacement = Replacement::of(file, target).map_err(NotWritable::Beside)?;
             Ok(To::Replacement(replacement))
         } else {
             Ok(To::Stream(file))
         }
     }
 
-    fn new_file(&mut self, path: &Path, target: PathBuf) -> Result<To, Refusal> {
+    fn new_file(&mut self, path: &Path, target: PathBuf) -> Result<To, NotWritable> {
         let name = target.as_os_str().as_bytes().rsplit(|byte| *byte == b'/').next();
         let name = OsStr::from_bytes(name.unwrap_or_default());
         if ["", ".", ".."].iter().any(|folder| name == *folder) {
-            return Err(Refusal::Nameless);
+            return Err(NotWritable::Nameless);
         }
         let identity = Identity::of_new(place::folder(&target), name.to_owned())?;
         self.known.write(path, Some(identity))?;
@@ -79,29 +79,29 @@ impl Outputs {
 }
 
 /// By its kind and its mode. Root may write what is write-protected, and does not here.
-fn can_be_written(metadata: &Metadata) -> Result<(), Refusal> {
+fn can_be_written(metadata: &Metadata) -> Result<(), NotWritable> {
     let kind = metadata.file_type();
     let mode = metadata.mode() & 0o7777;
     if kind.is_dir() {
-        Err(Refusal::Directory)
+        Err(NotWritable::Directory)
     } else if kind.is_socket() {
-        Err(Refusal::Socket)
+        Err(NotWritable::Socket)
     } else if kind.is_block_device() {
-        Err(Refusal::BlockDevice)
+        Err(NotWritable::BlockDevice)
     } else if mode & 0o222 == 0 {
-        Err(Refusal::Protected(mode))
+        Err(NotWritable::Protected(mode))
     } else {
         Ok(())
     }
 }
 
 /// What a shell has put standard output or standard error into is not replaced under it.
-fn no_standard_stream(identity: &Option<Identity>) -> Result<(), Refusal> {
+fn no_standard_stream(identity: &Option<Identity>) -> Result<(), NotWritable> {
     for (stream, name) in
         [(standard::output()?, "standard output"), (standard::error()?, "standard error")]
     {
         if identity.is_some() && *identity == Identity::of(&stream.metadata()?) {
-            return Err(Refusal::Same(name.to_owned()));
+            return Err(NotWritable::Same(name.to_owned()));
         }
     }
     Ok(())

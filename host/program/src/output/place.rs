@@ -1,6 +1,6 @@
 //! Where a path leads, its symbolic links followed.
 
-use super::refusal::Refusal;
+use super::not_writable::NotWritable;
 use super::standard;
 use std::fs::{self, File};
 use std::io;
@@ -19,7 +19,7 @@ pub enum Place {
 const LINKS: usize = 40;
 
 impl Place {
-    pub fn of(path: &Path) -> Result<Place, Refusal> {
+    pub fn of(path: &Path) -> Result<Place, NotWritable> {
         let mut place = path.to_owned();
         for _ in 0..=LINKS {
             let Ok(to) = fs::read_link(&place) else { return Ok(Place::Named(place)) };
@@ -29,7 +29,7 @@ impl Place {
             }
             place = folder.join(to);
         }
-        Err(Refusal::Links)
+        Err(NotWritable::Links)
     }
 
     /// What is held open under a number, which is the name in this folder.

@@ -7,7 +7,7 @@ mod single;
 mod spelt;
 mod update;
 
-use crate::failure::{BadInput, Failure, Out};
+use crate::failure::{self, BadInput, Failure, Out};
 use crate::{hex, reason};
 use clap::{Args, Subcommand};
 pub use spelt::spelt;
@@ -47,9 +47,8 @@ impl Write {
             return json::print(&frame, out);
         }
         writeln!(out, "{}", hex::spelt(&frame))?;
-        for refused in reason::everywhere(&frame) {
-            eprintln!("{refused}");
-        }
+        out.flush()?;
+        reason::everywhere(&frame).into_iter().for_each(failure::say);
         Ok(())
     }
 }

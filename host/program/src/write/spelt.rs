@@ -8,9 +8,9 @@ use yarrowbell::Command;
 pub fn spelt(command: &Command, list: u8) -> String {
     match command {
         Command::Init(init) => {
-            let mut words = format!("init --channels {}", channels::listed(init.stim));
+            let mut words = format!("init --channels {}", channels::argument(init.stim));
             if init.lf != 0 {
-                words += &format!(" --low-frequency {}", channels::listed(init.lf));
+                words += &format!(" --low-frequency {}", channels::argument(init.lf));
             }
             if init.factor != 0 {
                 words += &format!(" --skips {}", init.factor);

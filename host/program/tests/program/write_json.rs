@@ -2,6 +2,7 @@
 
 use crate::objects::{command, has, hex, told};
 use crate::round_trips::spelt;
+use crate::writings::TOO_SHORT;
 use crate::{random, run};
 use rand::Rng;
 use serde_json::json;
@@ -17,6 +18,9 @@ fn frames() {
     );
     has("write --json stop", json!({"bytes": "C0", "ident": 2, "fields": null, "note": null}));
     has("write update 0:0:0 2:500:127 --json", json!({"note": "for a list of 2 channels"}));
+    let note = json!({"note": TOO_SHORT.trim_end()});
+    has("write init --channels 1 --group-time 3 --main-time 4 --json", note.clone());
+    has("read 80 00 20 00 30 04 7F --json", note);
     run::bad(
         "write single --json --channel 3 --width 9 --current 120",
         "--width: 9 is not good (answer 4: value not good): a width is 0 or 10 to 500 µs",

@@ -3,7 +3,7 @@
 use crate::run::{self, printed, prints};
 
 /// What is said of an Init with the least Group_Time and the least Main_Time.
-const TOO_SHORT: &str =
+pub const TOO_SHORT: &str =
     "every unit refuses this Init with answer 5: t1 30 is below 1·30 + 15 = 45 \
                          tenths of a ms: n·t2 + 15, n the largest Mode plus 1\n";
 

@@ -4,7 +4,7 @@ use std::io;
 use thiserror::Error;
 
 #[derive(Debug, Error)]
-pub enum Refusal {
+pub enum NotWritable {
     #[error("this names no file")]
     Nameless,
     #[error("its symbolic links lead round in a circle, or are too many")]

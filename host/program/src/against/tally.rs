@@ -7,16 +7,16 @@ use crate::words::thousands;
 const FEW: usize = 20;
 
 /// The differences that are kept, which are the first ones, and how many there are.
-pub struct Listed<T> {
+pub struct Tally<T> {
     all: bool,
     kept: Vec<T>,
     count: u64,
 }
 
-impl<T> Listed<T> {
+impl<T> Tally<T> {
     /// Keeps all, or few: a long session may have more than there is memory.
-    pub fn new(all: bool) -> Listed<T> {
-        Listed { all, kept: Vec::new(), count: 0 }
+    pub fn new(all: bool) -> Tally<T> {
+        Tally { all, kept: Vec::new(), count: 0 }
     }
 
     pub fn add(&mut self, one: T) {
@@ -50,10 +50,10 @@ impl<T> Listed<T> {
 
 #[cfg(test)]
 mod tests {
-    use super::{Listed, FEW};
+    use super::{Tally, FEW};
 
-    fn listed(all: bool) -> Listed<u32> {
-        let mut listed = Listed::new(all);
+    fn listed(all: bool) -> Tally<u32> {
+        let mut listed = Tally::new(all);
         (0..2_951).for_each(|number| listed.add(number));
         listed
     }
