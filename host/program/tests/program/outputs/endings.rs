@@ -77,10 +77,10 @@ fn far(name: &str) -> Folder {
 }
 
 impl Running<'_> {
-    /// After this word of the shell the program is started, and has begun to write.
-    fn begin<'a>(folder: &'a Folder, first: &str, path: &str) -> Running<'a> {
+    /// By these words of the shell the program is started, and has begun to write.
+    fn begin<'a>(folder: &'a Folder, start: &str, path: &str) -> Running<'a> {
         let before = folder.names();
-        let line = format!("ulimit -c 0; {first} exec \"$yarrowbell\" replay far --plot {path}");
+        let line = format!("ulimit -c 0; {start} \"$yarrowbell\" replay far --plot {path}");
         let mut sh = sh(folder, &line);
         let child = sh.stdout(Stdio::null()).spawn().expect("there is a shell");
         let mut running = Running { folder, before, child };
@@ -118,12 +118,13 @@ impl Drop for Running<'_> {
     }
 }
 
+/// Also where the tests themselves were started to ignore some, as under `nohup`.
 #[test]
 fn signals() {
     let folder = far("signals").with("p.svg", "before");
     for (signal, number) in [("HUP", 1), ("INT", 2), ("QUIT", 3), ("TERM", 15), ("XCPU", 24)] {
         for path in ["p.svg", "new.svg"] {
-            Running::begin(&folder, "", path).ends_by(signal, number);
+            Running::begin(&folder, "exec env --default-signal", path).ends_by(signal, number);
             assert_eq!(folder.text("p.svg"), "before", "{signal}");
         }
     }
@@ -133,7 +134,7 @@ fn signals() {
 #[test]
 fn ignored_signals() {
     let folder = far("ignored_signals").with("p.svg", "before");
-    let mut running = Running::begin(&folder, "trap '' HUP INT;", "p.svg");
+    let mut running = Running::begin(&folder, "trap '' HUP INT; exec", "p.svg");
     for signal in ["HUP", "INT"] {
         running.send(signal);
         for _ in 0..20 {
