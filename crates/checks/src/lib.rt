@@ -1,38 +1,36 @@
-// The Check of a command (document 01, "The four frames").
+// The Check of a command (document 01, "The four frames"): the sum of its variables, reduced as it goes.
 use commands::Init;
-use commands::Setting;
 use commands::Single;
+ghost use mathlib.Core.List.{[], _∷_};
 ghost use mathlib.Core.Path.{_≡_};
-ghost use Prim.Native.Nat.{_%_, _<_};
-ghost use Rattle.commands.specs.Commands.{Command.init, Command.single, settingSum, sumAll, checkOf};
+ghost use Prim.Native.Nat.{_+_, _%_};
+ghost use Rattle.commands.specs.Commands.{Command.init, Command.single, checkOf};
+ghost use Rattle.checks.specs.Reduced.{reduced};
 
+// The remainder by 32 with one variable more.
+fn plus(remainder: u8, variable: u16) -> u8
+    ensures { λ r. ⌜ r ≡ (remainder + variable) % 32 ⌝ }
+{
+    ((remainder as u16 + variable % 32) % 32) as u8
+}
+
+// The remainder by 32 holds that by 8.
 pub fn check_init(v: Init) -> u64
     ensures { λ r. ⌜ r ≡ checkOf (init v) ⌝ }
 {
-    (v.factor as u64 + v.stim as u64 + v.lf as u64 + v.group as u64 + v.main as u64) % 8
+    let channels = plus(plus(plus(0, v.factor as u16), v.stim as u16), v.lf as u16);
+    (plus(plus(channels, v.group as u16), v.main) % 8) as u64
 }
 
-fn setting_sum(v: Setting) -> u64
-    ensures { λ r. ⌜ (r ≡ settingSum v) × (r < 70000) ⌝ }
+// The remainder by 32 with one entry more, of an Update or a Single: its lead, Mode or Channel_Number, then Width and Current.
+pub fn plus_entry(remainder: u8, lead: u8, width: u16, current: u8) -> u8
+    ensures { λ r. ⌜ r ≡ reduced 32 remainder (lead ∷ width ∷ current ∷ []) ⌝ }
 {
-    v.mode as u64 + v.width as u64 + v.current as u64
-}
-
-// Summed over all its channels in wide numbers, and reduced at the end.
-pub fn check_update(entries: [Setting; 8]) -> u64
-    ensures { λ r. ⌜ r ≡ sumAll entries % 32 ⌝ }
-{
-    let mut sum: u64 = 0;
-    let mut i = 0;
-    while i < 8 {
-        sum += setting_sum(entries[i]);
-        i += 1;
-    }
-    sum % 32
+    plus(plus(plus(remainder, lead as u16), width), current as u16)
 }
 
 pub fn check_single(v: Single) -> u64
     ensures { λ r. ⌜ r ≡ checkOf (single v) ⌝ }
 {
-    (v.channel as u64 + v.width as u64 + v.current as u64) % 32
+    plus_entry(0, v.channel, v.width, v.current) as u64
 }

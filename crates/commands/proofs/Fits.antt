@@ -1,7 +1,7 @@
 -- Good values have room in their fields, and good entries are the listed ones and then zeros. Assumes nothing.
-use Prim.Native.Nat.{ℕ, zero, suc, _-_, _^_, _≤_, _<_}
+use Prim.Native.Nat.{ℕ, zero, suc, _-_, _%_, _^_, _≤_, _<_}
 use mathlib.Core.Bool.{Bool, true, false, not, _&&_, _||_}
-use mathlib.Core.Path.{_≡_, refl, ap, ap₂}
+use mathlib.Core.Path.{_≡_, refl, sym, ap, ap₂, _∙_}
 use mathlib.Core.List.{List, [], _∷_, _++_}
 use native.Mathlib.Omega.{arith}
 use native.Mathlib.Numerals.{sub-one}
@@ -13,8 +13,9 @@ use Rattle.commands.specs.declared.Init.{Init}
 use Rattle.commands.specs.declared.Setting.{Setting}
 use Rattle.commands.specs.declared.Single.{Single}
 use Rattle.commands.specs.Ranges.{within, goodPulse, goodCount}
-use Rattle.commands.specs.Commands.{Command.update, noSetting, settingSum, goodInit, goodSetting, goodEntry, goodEntries, goodSingle, good}
+use Rattle.commands.specs.Commands.{Command.update, noSetting, settingSum, sumAll, checkOf, goodInit, goodSetting, goodEntry, goodEntries, goodSingle, good}
 use Rattle.commands.proofs.Tests.{both}
+use Rattle.commands.proofs.Entries.{sum-zeros}
 
 -- an Init but for its two channel sets, which are bytes
 pub record InitFits (v : Init) : Type 0 where
@@ -115,3 +116,9 @@ then-zeros (v ∷ vs) (suc count) e h =
     let p = both (goodEntry v (ltb 0 (suc count))) (goodEntries vs (suc count - 1)) e in
     let on : goodEntries vs count ≡ true = simp sub-one at (p .1) in
     rw suc-sub-suc (ap (λ (xs : List Setting). v ∷ xs) (then-zeros vs count on (omega arith)))
+
+-- so that those past the count add nothing to the Check
+pub check-listed : (count : ℕ) (entries : List Setting) → goodEntries entries count ≡ true → count ≤ length entries
+    → checkOf (update count (take count entries)) ≡ checkOf (update count entries)
+check-listed count entries e h =
+    ap (λ (n : ℕ). n % 32) (sym (sum-zeros (take count entries) (length entries - count)) ∙ ap sumAll (then-zeros entries count e h))

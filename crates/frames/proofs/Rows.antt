@@ -1,6 +1,6 @@
 -- Laws of the rows of an Update that are read: how many, a turn of the loop over them, and its end. Assumes nothing.
-use Prim.Native.Nat.{ℕ, zero, suc, _+_, _-_, _*_, _≤_, _<_}
-use mathlib.Core.Path.{_≡_, refl, ap}
+use Prim.Native.Nat.{ℕ, zero, suc, _+_, _-_, _*_, _%_, _≤_, _<_}
+use mathlib.Core.Path.{_≡_, refl, sym, ap}
 use mathlib.Core.List.{List}
 use native.Mathlib.Omega.{arith}
 use native.Mathlib.Numerals.{add-one}
@@ -8,7 +8,8 @@ use native.Mathlib.Nat.{zero-add, sub-zero, zero-sub, suc-sub-suc}
 use lib.ListN.{length, set, take, drop, replicate}
 use lib.Seq.{sets, sets-eq, take-at}
 use Rattle.commands.specs.declared.Setting.{Setting}
-use Rattle.commands.specs.Commands.{noSetting}
+use Rattle.commands.specs.Commands.{Command.update, noSetting, checkOf, goodEntries}
+use Rattle.commands.proofs.Entries.{sum-zeros, good-zeros}
 use Rattle.frames.specs.Layout.{settingIn, settingsIn, entriesIn}
 
 -- so many settings as are asked for
@@ -21,6 +22,18 @@ length-settings-in s at (suc count) = ap suc (length-settings-in s (at + 3) coun
 pub listed-in : (s : List ℕ) (count : ℕ) → take count (entriesIn s count) ≡ settingsIn s 1 count
 unfolding entriesIn
 listed-in s count = take-at (settingsIn s 1 count) _ count (length-settings-in s 1 count)
+
+-- past them are zeros, which add nothing and break nothing
+module _ (s : List ℕ) (count : ℕ) where
+  pub check-listed-in : checkOf (update count (take count (entriesIn s count))) ≡ checkOf (update count (entriesIn s count))
+  unfolding entriesIn
+  check-listed-in = ap (λ (n : ℕ). n % 32) (rw (listed-in s count) (sym (sum-zeros (settingsIn s 1 count) (8 - count))))
+
+  pub good-listed-in : goodEntries (take count (entriesIn s count)) count ≡ goodEntries (entriesIn s count) count
+  unfolding entriesIn
+  good-listed-in =
+      let h : count ≤ length (settingsIn s 1 count) = omega (arith, length-settings-in s 1 count) in
+      rw (listed-in s count) (sym (good-zeros (settingsIn s 1 count) count (8 - count) h))
 
 drop-zeros : (m n : ℕ) → drop n (replicate m noSetting) ≡ replicate (m - n) noSetting
 drop-zeros m zero = rw sub-zero

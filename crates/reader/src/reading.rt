@@ -1,5 +1,6 @@
 // A frame of each kind: the tests of its values, and the fields that are handed back.
 use super::layout;
+use super::listed;
 use commands::answers;
 use commands::idents;
 use commands::sizes;
@@ -75,8 +76,8 @@ pub fn read_update(s: &[u8], count: usize) -> Read
     ensures { λ r. ⌜ r ≡ testedValues (field (getD (now (s .entry)) 0 0) 0 5) (update count (entriesIn (now (s .entry)) count)) ⌝ }
 {
     let entries = layout::entries_in(s, count);
-    let right = layout::check_of(s[0]) == checks::check_update(entries);
-    let good = commands::good_update(count, entries);
+    let right = layout::check_of(s[0]) == listed::check(count, entries) as u64;
+    let good = commands::good_count(count) & listed::good(count, entries);
     let mut fields = nothing();
     fields.ident = idents::UPDATE;
     fields.entries = entries;

@@ -9,7 +9,7 @@ ghost use mathlib.Core.Path.{_≡_};
 ghost use Prim.Native.Nat.{_+_, _-_, _*_, _^_, _≤_, _<_};
 ghost use lib.ListN.{length, take};
 ghost use lib.Seq.{sets};
-ghost use Rattle.commands.specs.Commands.{Command.init, Command.update, Command.single, goodEntries, good};
+ghost use Rattle.commands.specs.Commands.{Command.init, Command.update, Command.single, checkOf, goodEntries, good};
 ghost use Rattle.frames.specs.Bytes.{head, initNumber, entryBytes, settingsBytes, frame};
 
 // The first byte of all but Init.
@@ -54,11 +54,12 @@ fn put_entry(low: u64, lead: u8, width: u16, current: u8, out: &mut [u8], at: us
     out[at + 2] = current;
 }
 
-// The entries of the first `count` settings, stored from the second byte on.
-fn put_settings(count: usize, entries: [Setting; 8], out: &mut [u8])
+// The entries of the first `count` settings, stored from the second byte on, and their Check.
+fn put_settings(count: usize, entries: [Setting; 8], out: &mut [u8]) -> u8
     requires { ⌜ (count ≤ 8) × (1 + 3 * count ≤ length (now out)) × (goodEntries entries count ≡ true) ⌝ }
-    ensures { λ _. ⌜ now (out .exit) ≡ sets (now (out .entry)) 1 (settingsBytes (take count entries)) ⌝ }
+    ensures { λ r. ⌜ (r ≡ checkOf (update count entries)) × (now (out .exit) ≡ sets (now (out .entry)) 1 (settingsBytes (take count entries))) ⌝ }
 {
+    let mut remainder: u8 = 0;
     let mut i = 0;
     while i < count {
         let v = entries[i];
@@ -70,16 +71,18 @@ fn put_settings(count: usize, entries: [Setting; 8], out: &mut [u8])
             out,
             sizes::FIRST + sizes::ENTRY * i,
         );
+        remainder = checks::plus_entry(remainder, v.mode, v.width, v.current);
         i += 1;
     }
+    remainder
 }
 
 pub fn put_update(count: usize, entries: [Setting; 8], out: &mut [u8])
     requires { ⌜ (good (update count entries) ≡ true) × (1 + 3 * count ≤ length (now out)) ⌝ }
     ensures { λ _. ⌜ now (out .exit) ≡ sets (now (out .entry)) 0 (frame (update count entries)) ⌝ }
 {
-    out[0] = head_of(idents::UPDATE, checks::check_update(entries));
-    put_settings(count, entries, out);
+    let check = put_settings(count, entries, out);
+    out[0] = head_of(idents::UPDATE, check as u64);
 }
 
 pub fn put_single(v: Single, out: &mut [u8])

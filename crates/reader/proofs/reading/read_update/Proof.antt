@@ -1,9 +1,11 @@
+use mathlib.Core.Bool.{_&&_}
 use mathlib.Core.Path.{ap, ap₂, _∙_}
 use lib.Dec.{eqb}
 use borrow.Author.Needs.{needs}
 use Rattle.commands.specs.Commands.{Command.update}
 use Rattle.frames.specs.declared.Fields.{Fields}
 use Rattle.frames.proofs.Judging.{judged-as}
+use Rattle.frames.proofs.Rows.{check-listed-in, good-listed-in}
 use Rattle.reader.proofs.reading.read_update.Statement.{statement}
 use Rattle.reader.proofs.reading.read_update.Tie as tie
 
@@ -16,11 +18,17 @@ shared-slice-read-check-of c = search needs
 check-of-requires : tie.Need-check-of-requires
 check-of-requires c κs = search needs
 
-check-update-requires : tie.Need-check-update-requires
-check-update-requires c κs = search needs
+check-requires : tie.Need-check-requires
+check-requires c κs = search needs
 
-good-update-requires : tie.Need-good-update-requires
-good-update-requires c κs = search needs
+cast-right : tie.Need-cast-right
+cast-right c = search needs
+
+good-count-requires : tie.Need-good-count-requires
+good-count-requires c κs = search needs
+
+good-requires : tie.Need-good-requires
+good-requires c κs = search needs
 
 nothing-requires : tie.Need-nothing-requires
 nothing-requires c κs = search needs
@@ -39,11 +47,14 @@ judged-requires c κs = search needs
 
 returns : tie.Need-returns
 returns c =
-    let count = c .before .before .before .before .before .before .before .before .args .count in
-    let l = c .before .before .before .before .before .before .entries-in in
+    let a = c .before .before .before .before .before .before .before .before .before .args in
+    let l = c .before .before .before .before .before .before .before .entries-in in
+    let first = c .before .before .before .before .before .check-of .ensures in
+    let check = c .before .before .before .before .check .ensures ∙ rw (← l .ensures) at (check-listed-in (a .s .now) (a .count)) in
+    let good = c .before .before .good2 .ensures ∙ rw (← l .ensures) at (good-listed-in (a .s .now) (a .count)) in
     rw (← l .ensures)
     (c .judged .ensures
-    ∙ judged-as _ (update count (l .result)) (ap₂ eqb (c .before .before .before .before .check-of .ensures) (c .before .before .before .check-update .ensures)) (c .before .before .good-update .ensures)
+    ∙ judged-as _ (update (a .count) (l .result)) (ap₂ eqb first check) (ap₂ _&&_ (c .before .before .before .good-count .ensures) good)
     (ap (λ (f : Fields). record { ident = 1; init = f .init; entries = l .result; single = f .single }) (c .before .nothing .ensures)))
 
 pub read-update-spec : {M : Type 1} → statement M
@@ -53,8 +64,10 @@ read-update-spec =
     entries-in-requires
     shared-slice-read-check-of
     check-of-requires
-    check-update-requires
-    good-update-requires
+    check-requires
+    cast-right
+    good-count-requires
+    good-requires
     nothing-requires
     mul-used
     add-used

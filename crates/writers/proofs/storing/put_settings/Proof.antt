@@ -1,25 +1,31 @@
-use Prim.Native.Nat.{_+_, _*_, _-_, _≤_}
+use Prim.Native.Nat.{_+_, _*_, _-_, _≤_, _<_}
 use mathlib.Core.Path.{_≡_, refl, sym, ap, _∙_}
 use native.Mathlib.Nat.{sub-zero}
 use native.Mathlib.Omega.{arith}
-use lib.ListN.{length, getD, take, drop}
+use lib.ListN.{length, getD, take}
 use lib.Seq.{sets, length-sets}
 use borrow.Author.Needs.{needs}
-use Rattle.commands.specs.Commands.{noSetting}
+use Rattle.commands.specs.Commands.{Command.update, noSetting}
 use Rattle.frames.specs.Bytes.{entryBytes, settingsBytes}
-use Rattle.writers.proofs.Rows.{write-turn, write-end}
-use Rattle.commands.proofs.Fits.{setting-fits, listed-good}
+use Rattle.commands.proofs.Entries.{rest, rest-turn, rest-end}
+use Rattle.commands.proofs.Fits.{setting-fits, listed-good, check-listed}
+use Rattle.checks.specs.Reduced.{reduced, settingsVariables}
+use Rattle.checks.proofs.Reduced.{entry-turn, entry-end, check-as-one-goes}
+use Rattle.writers.proofs.Rows.{write-turn}
 use Rattle.writers.proofs.storing.put_settings.Statement.{statement}
 use Rattle.writers.proofs.storing.put_settings.Tie as tie
 
 abbrev Inv-loop : tie.InvT-loop
-Inv-loop count out₀ entries i₀ out i = (i ≤ count) × (length out ≡ length out₀) × (sets out (1 + 3 * i) (settingsBytes (take (count - i) (drop i entries))) ≡ sets out₀ 1 (settingsBytes (take count entries)))
+Inv-loop count out₀ entries remainder₀ i₀ out remainder i =
+    (i ≤ count) × (length out ≡ length out₀)
+    × (sets out (1 + 3 * i) (settingsBytes (rest entries count i)) ≡ sets out₀ 1 (settingsBytes (take count entries)))
+    × (reduced 32 remainder (settingsVariables (rest entries count i)) ≡ reduced 32 0 (settingsVariables (take count entries)))
 
 abbrev μ-loop : tie.MeasureT-loop
-μ-loop count out₀ entries i₀ out i = count - i
+μ-loop count out₀ entries remainder₀ i₀ out remainder i = count - i
 
 loop-holds : tie.Need-loop-holds Inv-loop μ-loop
-loop-holds c = (omega arith, refl, rw sub-zero)
+loop-holds c = (omega arith, refl, rw sub-zero, simp sub-zero)
 
 mul-v : tie.Need-mul-v Inv-loop μ-loop
 mul-v c = search needs
@@ -40,6 +46,9 @@ put-entry-requires c κs =
     let g = listed-good (start .args .t2) (start .args .count) (l .i) (start .pre .2) (c .before .before .loop-test .taken) in
     (omega arith, omega arith, setting-fits (getD (start .args .t2) (l .i) noSetting) g .lead-fits, omega arith)
 
+plus-entry-requires : tie.Need-plus-entry-requires Inv-loop μ-loop
+plus-entry-requires c κs = search needs
+
 add-i : tie.Need-add-i Inv-loop μ-loop
 add-i c = search needs
 
@@ -48,23 +57,33 @@ loop-less c = search needs
 
 loop-again : tie.Need-loop-again Inv-loop μ-loop
 loop-again c =
-    let start = c .before .before .before .before .before .before .before .before in
+    let put = c .before .before .before .put-entry in
+    let l = c .before .before .before .before .before .before .before .loop in
+    let start = c .before .before .before .before .before .before .before .before .before in
     let a = start .args in
-    let l = c .before .before .before .before .before .before .loop in
-    let t = write-turn (a .t2) (l .out) (l .i) (a .count) (omega arith) (omega (arith, start .good)) in
+    let k : l .i < length (a .t2) = omega (arith, start .good) in
     let v = getD (a .t2) (l .i) noSetting in
-    let e : c .before .before .put-entry .last .1 .1 .1 .1 .0 ≡ sets (l .out) (1 + 3 * l .i) (entryBytes 5 (v .mode) (v .width) (v .current)) =
-    c .before .before .put-entry .ensures in
-    (omega arith, ap length e ∙ simp length-sets (l .inv .1), rw e (t ∙ l .inv .2))
+    let e : put .last .1 .1 .1 .1 .0 ≡ sets (l .out) (1 + 3 * l .i) (entryBytes 5 (v .mode) (v .width) (v .current)) = put .ensures in (
+      omega arith,
+      ap length e ∙ simp length-sets (l .inv .1),
+      rw e (write-turn (a .t2) (a .count) (l .i) (l .out) (omega arith) k ∙ l .inv .2),
+      rw (c .plus-entry .ensures) (entry-turn (l .remainder) v _ ∙ rw (rest-turn (a .t2) (a .count) (l .i) (omega arith) k) at (l .inv .3)),
+    )
 
 same-length : tie.Need-same-length Inv-loop μ-loop
 same-length c = c .before .loop .inv .1
 
 returns : tie.Need-returns Inv-loop μ-loop
+unfolding settingsBytes
 returns c =
-    let a = c .before .before .before .args in
+    let start = c .before .before .before in
+    let a = start .args in
     let l = c .before .loop in
-    sym (write-end (a .t2) (l .out) (l .i) (a .count) _ (c .loop-test .left)) ∙ l .inv .2
+    let e = rest-end (a .t2) (a .count) (l .i) (c .loop-test .left) in (
+      sym (entry-end (l .remainder)) ∙ rw e at (l .inv .3) ∙ check-as-one-goes (update (a .count) (take (a .count) (a .t2)))
+          ∙ check-listed (a .count) (a .t2) (start .pre .2) (omega (arith, start .good)),
+      rw e at (l .inv .2),
+    )
 
 pub put-settings-spec : {M : Type 1} → statement M
 put-settings-spec =
@@ -78,6 +97,7 @@ put-settings-spec =
     mul-put-entry
     add-put-entry
     put-entry-requires
+    plus-entry-requires
     add-i
     loop-less
     loop-again
