@@ -20,6 +20,14 @@ onward m s (x ∷ xs) =
 pub as-one-goes : (m : ℕ) (xs : List ℕ) → reduced m 0 xs ≡ total xs % m
 as-one-goes m xs = simp (zero-mod, zero-add) at (onward m 0 xs)
 
+-- by computation, the Update of source 003's examples: 1275, of which 27 is left
+abbrev example : List ℕ
+example = 0 ∷ 100 ∷ 52 ∷ 2 ∷ 200 ∷ 55 ∷ 1 ∷ 300 ∷ 72 ∷ 1 ∷ 400 ∷ 92 ∷ []
+
+computed : (reduced 32 0 example ≡ 27) × (total example ≡ 1275)
+unfolding reduced total
+computed = (refl, refl)
+
 -- ---- the Check of a command
 
 -- an entry more
