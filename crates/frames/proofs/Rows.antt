@@ -1,4 +1,4 @@
--- Laws of the rows of an Update that are read: how many, a turn of the loop over them, and its end. Assumes nothing.
+-- Laws of the rows of an Update that are read: how many, the zeros past them, a turn of the loop over them, and its end. Assumes nothing.
 use Prim.Native.Nat.{ℕ, zero, suc, _+_, _-_, _*_, _%_, _≤_, _<_}
 use mathlib.Core.Path.{_≡_, refl, sym, ap}
 use mathlib.Core.List.{List}

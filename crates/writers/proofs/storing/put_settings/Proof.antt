@@ -17,15 +17,15 @@ use Rattle.writers.proofs.storing.put_settings.Tie as tie
 
 abbrev Inv-loop : tie.InvT-loop
 Inv-loop count out₀ entries remainder₀ i₀ out remainder i =
-    (i ≤ count) × (length out ≡ length out₀)
-    × (sets out (1 + 3 * i) (settingsBytes (rest entries count i)) ≡ sets out₀ 1 (settingsBytes (take count entries)))
+    (sets out (1 + 3 * i) (settingsBytes (rest entries count i)) ≡ sets out₀ 1 (settingsBytes (take count entries)))
     × (reduced 32 remainder (settingsVariables (rest entries count i)) ≡ reduced 32 0 (settingsVariables (take count entries)))
+    × (length out ≡ length out₀) × (i ≤ count)
 
 abbrev μ-loop : tie.MeasureT-loop
 μ-loop count out₀ entries remainder₀ i₀ out remainder i = count - i
 
 loop-holds : tie.Need-loop-holds Inv-loop μ-loop
-loop-holds c = (omega arith, refl, rw sub-zero, simp sub-zero)
+loop-holds c = (rw sub-zero, simp sub-zero, refl, omega arith)
 
 mul-v : tie.Need-mul-v Inv-loop μ-loop
 mul-v c = search needs
@@ -64,14 +64,14 @@ loop-again c =
     let k : l .i < length (a .t2) = omega (arith, start .good) in
     let v = getD (a .t2) (l .i) noSetting in
     let e : put .last .1 .1 .1 .1 .0 ≡ sets (l .out) (1 + 3 * l .i) (entryBytes 5 (v .mode) (v .width) (v .current)) = put .ensures in (
+      rw e (write-turn (a .t2) (a .count) (l .i) (l .out) (omega arith) k ∙ l .inv .0),
+      rw (c .plus-entry .ensures) (entry-turn (l .remainder) v _ ∙ rw (rest-turn (a .t2) (a .count) (l .i) (omega arith) k) at (l .inv .1)),
+      ap length e ∙ simp length-sets (l .inv .2),
       omega arith,
-      ap length e ∙ simp length-sets (l .inv .1),
-      rw e (write-turn (a .t2) (a .count) (l .i) (l .out) (omega arith) k ∙ l .inv .2),
-      rw (c .plus-entry .ensures) (entry-turn (l .remainder) v _ ∙ rw (rest-turn (a .t2) (a .count) (l .i) (omega arith) k) at (l .inv .3)),
     )
 
 same-length : tie.Need-same-length Inv-loop μ-loop
-same-length c = c .before .loop .inv .1
+same-length c = c .before .loop .inv .2
 
 returns : tie.Need-returns Inv-loop μ-loop
 unfolding settingsBytes
@@ -80,9 +80,9 @@ returns c =
     let a = start .args in
     let l = c .before .loop in
     let e = rest-end (a .t2) (a .count) (l .i) (c .loop-test .left) in (
-      sym (entry-end (l .remainder)) ∙ rw e at (l .inv .3) ∙ check-as-one-goes (update (a .count) (take (a .count) (a .t2)))
+      sym (entry-end (l .remainder)) ∙ rw e at (l .inv .1) ∙ check-as-one-goes (update (a .count) (take (a .count) (a .t2)))
           ∙ check-listed (a .count) (a .t2) (start .pre .2) (omega (arith, start .good)),
-      rw e at (l .inv .2),
+      rw e at (l .inv .0),
     )
 
 pub put-settings-spec : {M : Type 1} → statement M
