@@ -1,0 +1,4 @@
+pub mod Xor
+pub mod Table
+pub mod Laws
+pub mod Examples
