@@ -1,0 +1,110 @@
+-- The laws of stuffing that the code's proofs cite. Assumes nothing.
+use mathlib.Core.Path.{_≡_, refl, sym, ap, _∙_}
+use mathlib.Core.Bool.{Bool, true, false, not, cond, _&&_, false≢true}
+use mathlib.Core.List.{List, [], _∷_, _++_}
+use Prim.Native.Nat.{ℕ, suc, _+_, _≤_, _<_}
+use native.Mathlib.Numerals.{add-one}
+use native.Mathlib.Omega.{arith}
+use lib.Bits.{bitXor}
+use lib.Dec.{eqb}
+use lib.ListN.{length, drop, getD, length-append, drop-of-length-le}
+use lib.Seq.{drop-cons}
+use Rattle.stuffing.specs.Stuffing.{stuffingByte, stuffingKey, special, pair, stuffedByte, stuffed, pairs, opensPair, wrongIn, pairsGood, plainOf, unstuffed}
+
+-- ---- a byte
+pub stuffed-special : (b : ℕ) → special b ≡ true → stuffedByte b ≡ pair b
+unfolding stuffedByte
+stuffed-special b e = rw e
+
+pub stuffed-plain : (b : ℕ) → special b ≡ false → stuffedByte b ≡ b ∷ []
+unfolding stuffedByte
+stuffed-plain b e = rw e
+
+pub size-le : (b : ℕ) → length (stuffedByte b) ≤ 2
+unfolding stuffedByte
+size-le b = by (special b)
+  where
+    by : (t : Bool) → length (cond t (pair b) (b ∷ [])) ≤ 2
+    by true = omega arith
+    by false = omega arith
+
+-- ---- bytes, each written by f; stuffed and pairs are two of these
+module _ (f : ℕ → List ℕ) (all : List ℕ → List ℕ) (nil : all [] ≡ []) (cons : (b : ℕ) (l : List ℕ) → all (b ∷ l) ≡ f b ++ all l) where
+  pub turn : (s : List ℕ) (i : ℕ) → i < length s → all (drop i s) ≡ f (getD s i 0) ++ all (drop (i + 1) s)
+  turn s i h = rw (add-one i, drop-cons s i 0) (cons (getD s i 0) (drop (suc i) s))
+
+  pub turn-length : (s : List ℕ) (i : ℕ) → i < length s → length (all (drop i s)) ≡ length (f (getD s i 0)) + length (all (drop (i + 1) s))
+  turn-length s i h = ap length (turn s i h) ∙ length-append (f (getD s i 0)) (all (drop (i + 1) s))
+
+  pub end : (s : List ℕ) (i : ℕ) → length s ≤ i → all (drop i s) ≡ []
+  end s i h = ap all (drop-of-length-le s h) ∙ nil
+
+pub stuffed-nil : stuffed [] ≡ []
+unfolding stuffed
+stuffed-nil = refl
+
+pub stuffed-cons : (b : ℕ) (l : List ℕ) → stuffed (b ∷ l) ≡ stuffedByte b ++ stuffed l
+unfolding stuffed
+stuffed-cons b l = refl
+
+pub pairs-nil : pairs [] ≡ []
+unfolding pairs
+pairs-nil = refl
+
+pub pairs-cons : (b : ℕ) (l : List ℕ) → pairs (b ∷ l) ≡ pair b ++ pairs l
+unfolding pairs
+pairs-cons b l = refl
+
+pub length-pairs : (l : List ℕ) → length (pairs l) ≡ length l + length l
+unfolding pairs
+length-pairs [] = refl
+length-pairs (b ∷ l) = omega (arith, length-pairs l)
+
+-- ---- reading back, a byte
+module _ (b : ℕ) (after : Bool) where
+  pub wrong-after : after ≡ true → not (special (bitXor b stuffingKey)) ≡ wrongIn after b
+  unfolding wrongIn
+  wrong-after e = rw e
+
+  pub wrong-plain : after ≡ false → (special b && not (eqb b stuffingByte)) ≡ wrongIn after b
+  unfolding wrongIn
+  wrong-plain e = rw e
+
+plain-none : (after : Bool) (b : ℕ) → opensPair after b ≡ true → plainOf after b ≡ []
+unfolding opensPair plainOf
+plain-none true b e = absurd (false≢true e)
+plain-none false b e = rw e
+
+plain-one : (after : Bool) (b : ℕ) → opensPair after b ≡ false → plainOf after b ≡ cond after (bitXor b stuffingKey) b ∷ []
+unfolding opensPair plainOf
+plain-one true b e = refl
+plain-one false b e = rw e
+
+-- ---- reading back, a turn of a loop over bytes, and its end
+module _ (after : Bool) (s : List ℕ) (i : ℕ) where
+  pub good-on : i < length s → pairsGood after (drop i s) ≡ (not (wrongIn after (getD s i 0)) && pairsGood (opensPair after (getD s i 0)) (drop (i + 1) s))
+  unfolding pairsGood
+  good-on h = rw (add-one i, drop-cons s i 0)
+
+  pub good-end : length s ≤ i → pairsGood after (drop i s) ≡ not after
+  unfolding pairsGood
+  good-end h = rw (drop-of-length-le s h)
+
+  -- a byte that opens a pair stands for none, any other for one
+  pub unstuffed-none : i < length s → opensPair after (getD s i 0) ≡ true → unstuffed after (drop i s) ≡ unstuffed true (drop (i + 1) s)
+  unfolding unstuffed
+  unstuffed-none h e = rw (add-one i, drop-cons s i 0, plain-none after (getD s i 0) e, e)
+
+  pub unstuffed-one : i < length s → opensPair after (getD s i 0) ≡ false
+      → unstuffed after (drop i s) ≡ cond after (bitXor (getD s i 0) stuffingKey) (getD s i 0) ∷ unstuffed false (drop (i + 1) s)
+  unfolding unstuffed
+  unstuffed-one h e = rw (add-one i, drop-cons s i 0, plain-one after (getD s i 0) e, e)
+
+  pub unstuffed-end : length s ≤ i → unstuffed after (drop i s) ≡ []
+  unfolding unstuffed
+  unstuffed-end h = rw (drop-of-length-le s h)
+
+  pub size-on : (opens : Bool) → i < length s → opens ≡ opensPair after (getD s i 0)
+      → length (unstuffed after (drop i s)) ≡ cond opens 0 1 + length (unstuffed opens (drop (i + 1) s))
+  size-on true h e = omega (arith, ap length (unstuffed-none h (sym e)))
+  size-on false h e = omega (arith, ap length (unstuffed-one h (sym e)))

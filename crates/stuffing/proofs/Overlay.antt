@@ -1,0 +1,37 @@
+-- The laws of bytes put to the start of an output. Assumes nothing.
+use mathlib.Core.Path.{_≡_}
+use mathlib.Core.List.{List, [], _∷_, _++_, append-nil}
+use Prim.Native.Nat.{ℕ, suc, _+_, _≤_, _<_}
+use native.Mathlib.Numerals.{add-one}
+use native.Mathlib.Omega.{arith}
+use lib.ListN.{length, take, drop, set, length-append, length-take, length-drop, take-append-drop, drop-of-length-le}
+use lib.Seq.{take-all, take-nil, drop-nil, drop-cons, take-suc-set, drop-set-lt, append-snoc}
+use Rattle.stuffing.specs.Overlay.{overlay}
+
+pub overlay-fits : (bytes out : List ℕ) → length bytes ≤ length out → overlay bytes out ≡ bytes ++ drop (length bytes) out
+unfolding overlay
+overlay-fits bytes out h = rw (take-all (length out) bytes h)
+
+pub length-overlay : (bytes out : List ℕ) → length (overlay bytes out) ≡ length out
+unfolding overlay
+length-overlay bytes out = simp (length-append, length-take, length-drop) (omega arith)
+
+-- ---- an output of which a part is put: out as it stands up to place to, and bytes from there on
+abbrev pub from : ℕ → List ℕ → List ℕ → List ℕ
+from to bytes out = take to out ++ overlay bytes (drop to out)
+
+-- a byte more
+pub from-on : (to v : ℕ) (bytes out : List ℕ) → to < length out → from (to + 1) bytes (set out to v) ≡ from to (v ∷ bytes) out
+unfolding overlay
+from-on to v bytes out h =
+    rw (add-one to, take-suc-set out to v h, drop-set-lt (suc to) out to v (omega arith), drop-cons out to 0 h)
+    (append-snoc (take to out) v (overlay bytes (drop (suc to) out)))
+
+-- no byte left, or no room
+pub from-end : (to : ℕ) (out : List ℕ) → from to [] out ≡ out
+unfolding overlay
+from-end to out = rw take-nil (take-append-drop to out)
+
+pub from-full : (to : ℕ) (bytes out : List ℕ) → length out ≤ to → from to bytes out ≡ out
+unfolding overlay
+from-full to bytes out h = rw (drop-of-length-le out h, drop-nil, take-all to out h) (append-nil out)
