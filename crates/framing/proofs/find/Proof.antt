@@ -1,0 +1,74 @@
+-- `framing::find` meets its contract. The loop's invariant: what the scan finds from here on is what it finds in all. Assumes nothing.
+use mathlib.Core.Path.{_≡_, refl, sym, ap, _∙_}
+use Prim.Native.Nat.{ℕ, _≤_, _-_, _+_}
+use native.Mathlib.Omega.{arith}
+use borrow.Author.Needs.{needs}
+use lib.ListN.{length, drop, getD}
+use Rattle.framing.specs.Scan.{scan}
+use Rattle.framing.proofs.Finding.{scan-found, scan-on, scan-end}
+use Rattle.framing.proofs.find.Statement.{statement}
+use Rattle.framing.proofs.find.Tie as tie
+
+abbrev Inv-loop : tie.InvT-loop
+Inv-loop s prev₀ body₀ at₀ prev body at = (at ≤ length s) × (scan prev body at (drop at s) ≡ scan 0 0 0 s)
+
+abbrev μ-loop : tie.MeasureT-loop
+μ-loop s prev₀ body₀ at₀ prev body at = length s - at
+
+loop-holds : tie.Need-loop-holds Inv-loop μ-loop
+loop-holds c = (search needs, refl)
+
+shared-slice-read-b : tie.Need-shared-slice-read-b Inv-loop μ-loop
+shared-slice-read-b c = search needs
+
+is-close-requires : tie.Need-is-close-requires Inv-loop μ-loop
+is-close-requires c κs = tt
+
+add-t11 : tie.Need-add-t11 Inv-loop μ-loop
+add-t11 c = search needs
+
+returns : tie.Need-returns Inv-loop μ-loop
+returns c =
+    let l = c .before .before .before .before .loop in
+    let s = c .before .before .before .before .before .before .args .s .now in
+    sym (scan-found (l .prev) (l .body) s (l .at) (search needs) (sym (c .before .is-close .ensures) ∙ c .if1 .taken)) ∙ l .inv .1
+
+next-open-requires : tie.Need-next-open-requires Inv-loop μ-loop
+next-open-requires c κs = omega arith
+
+add-at : tie.Need-add-at Inv-loop μ-loop
+add-at c = search needs
+
+loop-less : tie.Need-loop-less Inv-loop μ-loop
+loop-less c = search needs
+
+loop-again : tie.Need-loop-again Inv-loop μ-loop
+loop-again c =
+    let l = c .before .before .before .before .before .loop in
+    let s = c .before .before .before .before .before .before .before .args .s .now in (
+      search needs,
+      ap (λ (n : ℕ). scan (getD s (l .at) 0) n (l .at + 1) (drop (l .at + 1) s)) (c .next-open .ensures)
+          ∙ sym (scan-on (l .prev) (l .body) s (l .at) (search needs) (sym (c .before .before .is-close .ensures) ∙ c .before .if1 .left)) ∙ l .inv .1,
+    )
+
+returns-2 : tie.Need-returns-2 Inv-loop μ-loop
+returns-2 c =
+    let l = c .before .loop in
+    sym (scan-end (l .prev) (l .body) _ (l .at) (c .loop-test .left)) ∙ l .inv .1
+
+pub find-spec : {M : Type 1} → statement M
+find-spec =
+    tie.close
+    (tie.spec
+    Inv-loop
+    μ-loop
+    loop-holds
+    shared-slice-read-b
+    is-close-requires
+    add-t11
+    returns
+    next-open-requires
+    add-at
+    loop-less
+    loop-again
+    returns-2)

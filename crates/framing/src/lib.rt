@@ -1,0 +1,142 @@
+// Packets on the line, which RehaStim2 and RehaMove3 share: one written, and the first one found in a row of bytes.
+use stuffing::KEY;
+use stuffing::START;
+use stuffing::STOP;
+use stuffing::STUFFING;
+ghost use mathlib.Core.Path.{_≡_};
+ghost use Prim.Native.Nat.{_+_, _^_, _<_, _≤_};
+ghost use lib.Dec.{leb};
+ghost use lib.ListN.{length};
+ghost use lib.Seq.{sets};
+ghost use Rattle.stuffing.specs.Stuffing.{pair, stuffedByte, stuffed, pairs};
+ghost use Rattle.framing.specs.Packet.{packetOf, sizeWritten, writtenTo};
+ghost use Rattle.framing.specs.Scan.{opens, closes, opened, scan};
+
+// Where a finished packet lies: its first byte after the start, and the place after its stop; both 0 where none is finished.
+pub struct Found {
+    pub body: usize,
+    pub used: usize,
+}
+
+fn is_close(prev: u8, body: usize, b: u8) -> bool
+    ensures { λ r. ⌜ r ≡ closes prev body b ⌝ }
+{
+    (prev != STUFFING) & ((b == STOP) & (0 < body))
+}
+
+fn is_open(prev: u8, b: u8) -> bool
+    ensures { λ r. ⌜ r ≡ opens prev b ⌝ }
+{
+    (prev != STUFFING) & (b == START)
+}
+
+fn next_open(prev: u8, body: usize, b: u8, at: usize) -> usize
+    requires { ⌜ at < 2 ^ 63 ⌝ }
+    ensures { λ r. ⌜ r ≡ opened prev body b at ⌝ }
+{
+    if is_open(prev, b) {
+        return at + 1;
+    }
+    body
+}
+
+// The first packet that is finished in s.
+pub fn find(s: &[u8]) -> Found
+    ensures { λ r. ⌜ r ≡ scan 0 0 0 (now (s .entry)) ⌝ }
+{
+    let mut prev: u8 = 0;
+    let mut body: usize = 0;
+    let mut at: usize = 0;
+    while at < s.len() {
+        let b = s[at];
+        if is_close(prev, body, b) {
+            return Found { body, used: at + 1 };
+        }
+        body = next_open(prev, body, b, at);
+        prev = b;
+        at += 1;
+    }
+    Found { body: 0, used: 0 }
+}
+
+// Puts b stuffed at place at, and gives the place after it.
+fn put_pair(out: &mut [u8], at: usize, b: u8) -> usize
+    requires { ⌜ at + 2 ≤ length (now out) ⌝ }
+    ensures { λ r. ⌜ (r ≡ at + 2) × (now (out .exit) ≡ sets (now (out .entry)) at (pair b)) ⌝ }
+{
+    out[at] = STUFFING;
+    out[at + 1] = b ^ KEY;
+    at + 2
+}
+
+// Puts b at place at, stuffed if it must be, and gives the place after it.
+fn put(out: &mut [u8], at: usize, b: u8) -> usize
+    requires { ⌜ at + length (stuffedByte b) ≤ length (now out) ⌝ }
+    ensures { λ r. ⌜ (r ≡ at + length (stuffedByte b)) × (now (out .exit) ≡ sets (now (out .entry)) at (stuffedByte b)) ⌝ }
+{
+    if stuffing::is_special(b) {
+        return put_pair(out, at, b);
+    }
+    out[at] = b;
+    at + 1
+}
+
+// Puts bytes from place at on, each stuffed if it must be, and gives the place after them.
+fn put_stuffed(out: &mut [u8], at: usize, bytes: &[u8]) -> usize
+    requires { ⌜ at + length (stuffed (now bytes)) ≤ length (now out) ⌝ }
+    ensures { λ r. ⌜ (r ≡ at + length (stuffed (now (bytes .entry)))) × (now (out .exit) ≡ sets (now (out .entry)) at (stuffed (now (bytes .entry)))) ⌝ }
+{
+    let mut to = at;
+    let mut i = 0;
+    while i < bytes.len() {
+        to = put(out, to, bytes[i]);
+        i += 1;
+    }
+    to
+}
+
+// Puts bytes from place at on, each stuffed, and gives the place after them.
+fn put_pairs(out: &mut [u8], at: usize, bytes: &[u8]) -> usize
+    requires { ⌜ at + length (pairs (now bytes)) ≤ length (now out) ⌝ }
+    ensures { λ r. ⌜ (r ≡ at + length (pairs (now (bytes .entry)))) × (now (out .exit) ≡ sets (now (out .entry)) at (pairs (now (bytes .entry)))) ⌝ }
+{
+    let mut to = at;
+    let mut i = 0;
+    while i < bytes.len() {
+        to = put_pair(out, to, bytes[i]);
+        i += 1;
+    }
+    to
+}
+
+// Has out room for the packet? No sum that could pass 64 bits.
+fn has_room(room: usize, header: &[u8], content: &[u8]) -> bool
+    ensures { λ r. ⌜ r ≡ leb (length (packetOf (now (header .entry)) (now (content .entry)))) room ⌝ }
+{
+    let h = header.len();
+    if room / 2 <= h {
+        return false;
+    }
+    stuffing::stuffed_size(content) <= room - 2 * h - 2
+}
+
+fn put_packet(out: &mut [u8], header: &[u8], content: &[u8]) -> usize
+    requires { ⌜ length (packetOf (now header) (now content)) ≤ length (now out) ⌝ }
+    ensures { λ r. ⌜ (r ≡ length (packetOf (now (header .entry)) (now (content .entry)))) × (now (out .exit) ≡ sets (now (out .entry)) 0 (packetOf (now (header .entry)) (now (content .entry)))) ⌝ }
+{
+    out[0] = START;
+    let a = put_pairs(out, 1, header);
+    let b = put_stuffed(out, a, content);
+    out[b] = STOP;
+    b + 1
+}
+
+// Writes a packet to the start of out, and says how many bytes it has: 0 where out is too short, and then out stays.
+pub fn write(out: &mut [u8], header: &[u8], content: &[u8]) -> usize
+    ensures { λ r. ⌜ (r ≡ sizeWritten (now (out .entry)) (now (header .entry)) (now (content .entry))) × (now (out .exit) ≡ writtenTo (now (out .entry)) (now (header .entry)) (now (content .entry))) ⌝ }
+{
+    if has_room(out.len(), header, content) {
+        return put_packet(out, header, content);
+    }
+    0
+}
