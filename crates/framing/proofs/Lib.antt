@@ -1,2 +1,5 @@
 pub mod Finding
 pub mod Writing
+pub mod ReadOn
+pub mod Clean
+pub mod Resync
