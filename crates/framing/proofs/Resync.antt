@@ -1,13 +1,13 @@
 -- Resynchronisation: after any bytes that do not end in a stuffing byte, a packet that alone is whole is found as if it stood alone; and one that
 -- was written is whole alone. Assumes nothing.
-use mathlib.Core.Path.{_≡_, refl, sym, ap, ap₂, _∙_}
+use mathlib.Core.Path.{_≡_, refl, sym, ap, _∙_}
 use mathlib.Core.Bool.{Bool, true, false, cond, and-false}
 use mathlib.Core.List.{List, [], _∷_, _++_, map}
 use Prim.Native.Nat.{ℕ, suc, _+_, _-_, _≤_, _<_}
 use native.Mathlib.Nat.{add-zero, zero-add, add-comm}
 use native.Mathlib.Omega.{arith}
 use lib.Dec.{eqb}
-use lib.ListN.{length, take, drop, length-append}
+use lib.ListN.{length, drop, length-append}
 use lib.Seq.{take-at, take-append-le, drop-append-seam, drop-append-add}
 use borrow.Author.Tests.{eqb-true}
 use Rattle.stuffing.specs.Stuffing.{startByte, stopByte, stuffingByte}

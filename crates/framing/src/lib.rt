@@ -4,13 +4,13 @@ use stuffing::START;
 use stuffing::STOP;
 use stuffing::STUFFING;
 ghost use mathlib.Core.Path.{_≡_};
-ghost use Prim.Native.Nat.{_+_, _^_, _<_, _≤_};
+ghost use Prim.Native.Nat.{_+_, _≤_};
 ghost use lib.Dec.{leb};
 ghost use lib.ListN.{length};
 ghost use lib.Seq.{sets};
 ghost use Rattle.stuffing.specs.Stuffing.{pair, stuffedByte, stuffed, pairs};
 ghost use Rattle.framing.specs.Packet.{packetOf, sizeWritten, writtenTo};
-ghost use Rattle.framing.specs.Scan.{opens, closes, opened, scan};
+ghost use Rattle.framing.specs.Scan.{opens, closes, scan};
 
 // Where a finished packet lies: its first byte after the start, and the place after its stop; both 0 where none is finished.
 pub struct Found {
@@ -30,16 +30,6 @@ fn is_open(prev: u8, b: u8) -> bool
     (prev != STUFFING) & (b == START)
 }
 
-fn next_open(prev: u8, body: usize, b: u8, at: usize) -> usize
-    requires { ⌜ at < 2 ^ 63 ⌝ }
-    ensures { λ r. ⌜ r ≡ opened prev body b at ⌝ }
-{
-    if is_open(prev, b) {
-        return at + 1;
-    }
-    body
-}
-
 // The first packet that is finished in s.
 pub fn find(s: &[u8]) -> Found
     ensures { λ r. ⌜ r ≡ scan 0 0 0 (now (s .entry)) ⌝ }
@@ -52,7 +42,9 @@ pub fn find(s: &[u8]) -> Found
         if is_close(prev, body, b) {
             return Found { body, used: at + 1 };
         }
-        body = next_open(prev, body, b, at);
+        if is_open(prev, b) {
+            body = at + 1;
+        }
         prev = b;
         at += 1;
     }

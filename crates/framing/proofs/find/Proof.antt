@@ -1,11 +1,11 @@
 -- `framing::find` meets its contract. The loop's invariant: what the scan finds from here on is what it finds in all. Assumes nothing.
 use mathlib.Core.Path.{_≡_, refl, sym, ap, _∙_}
+use mathlib.Core.Logic.{⊎-elim}
 use Prim.Native.Nat.{ℕ, _≤_, _-_, _+_}
-use native.Mathlib.Omega.{arith}
 use borrow.Author.Needs.{needs}
 use lib.ListN.{length, drop, getD}
-use Rattle.framing.specs.Scan.{scan}
-use Rattle.framing.proofs.Finding.{scan-found, scan-on, scan-end}
+use Rattle.framing.specs.Scan.{opened, scan}
+use Rattle.framing.proofs.Finding.{opened-yes, opened-no, scan-found, scan-on, scan-end}
 use Rattle.framing.proofs.find.Statement.{statement}
 use Rattle.framing.proofs.find.Tie as tie
 
@@ -33,8 +33,11 @@ returns c =
     let s = c .before .before .before .before .before .before .args .s .now in
     sym (scan-found (l .prev) (l .body) s (l .at) (search needs) (sym (c .before .is-close .ensures) ∙ c .if1 .taken)) ∙ l .inv .1
 
-next-open-requires : tie.Need-next-open-requires Inv-loop μ-loop
-next-open-requires c κs = omega arith
+is-open-requires : tie.Need-is-open-requires Inv-loop μ-loop
+is-open-requires c κs = tt
+
+add-body : tie.Need-add-body Inv-loop μ-loop
+add-body c = search needs
 
 add-at : tie.Need-add-at Inv-loop μ-loop
 add-at c = search needs
@@ -44,11 +47,15 @@ loop-less c = search needs
 
 loop-again : tie.Need-loop-again Inv-loop μ-loop
 loop-again c =
-    let l = c .before .before .before .before .before .loop in
-    let s = c .before .before .before .before .before .before .before .args .s .now in (
+    let l = c .before .before .before .before .before .before .loop in
+    let s = c .before .before .before .before .before .before .before .before .args .s .now in
+    let b = getD s (l .at) 0 in
+    let o = sym (c .before .is-open .ensures) in
+    let body : c .if2 .body ≡ opened (l .prev) (l .body) b (l .at) =
+    ⊎-elim (λ w. w .1 ∙ opened-yes (l .prev) (l .body) b (l .at) (o ∙ w .0 .taken)) (λ w. w .1 ∙ opened-no (l .prev) (l .body) b (l .at) (o ∙ w .0 .left)) (c .if2 .came) in (
       search needs,
-      ap (λ (n : ℕ). scan (getD s (l .at) 0) n (l .at + 1) (drop (l .at + 1) s)) (c .next-open .ensures)
-          ∙ sym (scan-on (l .prev) (l .body) s (l .at) (search needs) (sym (c .before .before .is-close .ensures) ∙ c .before .if1 .left)) ∙ l .inv .1,
+      ap (λ (n : ℕ). scan b n (l .at + 1) (drop (l .at + 1) s)) body
+          ∙ sym (scan-on (l .prev) (l .body) s (l .at) (search needs) (sym (c .before .before .before .is-close .ensures) ∙ c .before .before .if1 .left)) ∙ l .inv .1,
     )
 
 returns-2 : tie.Need-returns-2 Inv-loop μ-loop
@@ -67,7 +74,8 @@ find-spec =
     is-close-requires
     add-t11
     returns
-    next-open-requires
+    is-open-requires
+    add-body
     add-at
     loop-less
     loop-again
