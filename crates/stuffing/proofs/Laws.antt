@@ -20,13 +20,13 @@ pub stuffed-plain : (b : ℕ) → special b ≡ false → stuffedByte b ≡ b �
 unfolding stuffedByte
 stuffed-plain b e = rw e
 
-pub size-le : (b : ℕ) → length (stuffedByte b) ≤ 2
+pub size-le : (b n : ℕ) → n ≡ length (stuffedByte b) → n ≤ 2
 unfolding stuffedByte
-size-le b = by (special b)
+size-le b n = by (special b)
   where
-    by : (t : Bool) → length (cond t (pair b) (b ∷ [])) ≤ 2
-    by true = omega arith
-    by false = omega arith
+    by : (t : Bool) → n ≡ length (cond t (pair b) (b ∷ [])) → n ≤ 2
+    by true e = omega arith
+    by false e = omega arith
 
 -- ---- bytes, each written by f; stuffed and pairs are two of these
 module _ (f : ℕ → List ℕ) (all : List ℕ → List ℕ) (nil : all [] ≡ []) (cons : (b : ℕ) (l : List ℕ) → all (b ∷ l) ≡ f b ++ all l) where

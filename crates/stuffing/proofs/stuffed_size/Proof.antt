@@ -4,7 +4,7 @@ use Prim.Native.Nat.{_≤_, _-_, _+_}
 use native.Mathlib.Nat.{zero-add}
 use native.Mathlib.Omega.{arith}
 use borrow.Author.Needs.{needs}
-use lib.ListN.{length, drop, getD}
+use lib.ListN.{length, drop}
 use Rattle.stuffing.specs.Stuffing.{stuffed, stuffedByte}
 use Rattle.stuffing.proofs.Laws.{turn-length, end, stuffed-nil, stuffed-cons, size-le}
 use Rattle.stuffing.proofs.stuffed_size.Statement.{statement}
@@ -26,10 +26,7 @@ size-requires : tie.Need-size-requires Inv-loop μ-loop
 size-requires c κs = tt
 
 add-n : tie.Need-add-n Inv-loop μ-loop
-add-n c =
-    let l = c .before .before .before .loop in
-    let s = c .before .before .before .before .before .args .bytes .now in
-    record { fits = omega (arith, c .size .ensures, size-le (getD s (l .i) 0)) }
+add-n c = let small = size-le _ (c .size .result) (c .size .ensures) in record { fits = omega arith }
 
 add-i : tie.Need-add-i Inv-loop μ-loop
 add-i c = search needs
@@ -41,7 +38,7 @@ loop-again : tie.Need-loop-again Inv-loop μ-loop
 loop-again c =
     let l = c .before .before .before .loop in
     let s = c .before .before .before .before .before .args .bytes .now in
-    (search needs, omega (arith, c .size .ensures, size-le (getD s (l .i) 0)), omega (arith, c .size .ensures, turn-length stuffedByte stuffed stuffed-nil stuffed-cons s (l .i) (search needs)))
+    (search needs, omega (arith, size-le _ (c .size .result) (c .size .ensures)), omega (arith, c .size .ensures, turn-length stuffedByte stuffed stuffed-nil stuffed-cons s (l .i) (search needs)))
 
 returns : tie.Need-returns Inv-loop μ-loop
 returns c =

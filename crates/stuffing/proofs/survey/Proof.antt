@@ -64,9 +64,9 @@ returns : tie.Need-returns Inv-loop μ-loop
 returns c =
     let l = c .before .loop in
     let s = c .before .before .before .args .s .now in
-    ap₂ (λ (t : Bool) (n : ℕ). record { good = t; size = n })
-    (ap (λ (t : Bool). l .good && t) (sym (good-end (l .after) s (l .i) (c .loop-test .left))) ∙ l .inv .2)
-    (omega (arith, ap length (unstuffed-end (l .after) s (l .i) (c .loop-test .left))))
+    let t : (l .good && not (l .after)) ≡ pairsGood false s = ap (λ (t : Bool). l .good && t) (sym (good-end (l .after) s (l .i) (c .loop-test .left))) ∙ l .inv .2 in
+    let n : l .size ≡ length (unstuffed false s) = omega (arith, ap length (unstuffed-end (l .after) s (l .i) (c .loop-test .left))) in
+    ap₂ (λ (x : Bool) (y : ℕ). record { good = x; size = y }) t n
 
 pub survey-spec : {M : Type 1} → statement M
 survey-spec =
