@@ -8,7 +8,7 @@ use lib.IntN.{ℤ, pos, negsuc, _+ℤ_, _-ℤ_}
 use lib.Signed.{leZ, ltZ}
 use mir.Syntax.{w8}
 use mir.Val.{SFits, ofZ}
-use borrow.Author.Tests.{ltb-true, ltb-false, lt-ltb, le-ltb, eq-eqb, ne-eqb}
+use borrow.Author.Tests.{leb-true, ltb-true, ltb-false, eqb-true, lt-ltb, le-ltb, eq-eqb, ne-eqb}
 use Rattle.commands2.specs.Results.{noError, goodResult, byteOf, signedOf}
 
 leb-zero : (n : ℕ) → leb n 0 ≡ eqb n 0
@@ -69,3 +69,19 @@ pub byte-below : (z : ℤ) → SFits w8 z → byteOf z < 256
 unfolding byteOf
 byte-below (pos n) f = omega (arith, f .sfits)
 byte-below (negsuc n) f = omega arith
+
+-- ---- there and back
+
+pub signed-byte : (z : ℤ) → goodResult z ≡ true → signedOf (byteOf z) ≡ z
+unfolding goodResult byteOf
+signed-byte (pos n) g = let e : n ≡ 0 = eqb-true n 0 g in rw e (signed-low 0 (omega arith))
+signed-byte (negsuc n) g =
+    let h : n ≤ 7 = leb-true n 7 g in signed-high (255 - n) (omega arith) ∙ ap negsuc (omega arith)
+
+pub byte-signed : (b : ℕ) → b < 256 → byteOf (signedOf b) ≡ b
+unfolding byteOf
+byte-signed b h = by (ltb b 128) refl
+  where
+    by : (t : Bool) → ltb b 128 ≡ t → byteOf (signedOf b) ≡ b
+    by true e = rw (signed-low b (ltb-true b 128 e))
+    by false e = rw (signed-high b (ltb-false b 128 e)) (omega (arith, ltb-false b 128 e))

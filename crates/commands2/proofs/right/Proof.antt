@@ -1,26 +1,20 @@
 -- `commands2::right` meets its contract: of a tag but the last the command is no other. Assumes nothing.
-use mathlib.Core.Path.{_≡_, refl}
+use mathlib.Core.Path.{_≡_}
+use mathlib.Core.Logic.{⊎-elim}
 use mathlib.Core.Bool.{false}
 use mathlib.Core.List.{[], _∷_}
 use types.Run.{OneOf, miss}
 use denote.Enum.Declared.{tagOf}
 use Rattle.commands2.specs.declared.Command.{Command}
-use Rattle.commands2.specs.declared.Command.the-variants.{Init, InitAck, UnknownCommand, Watchdog, GetStimulationMode, GetStimulationModeAck, InitChannelListMode, InitChannelListModeAck, Other}
 use Rattle.commands2.specs.Commands.{isOther, right}
 use Rattle.commands2.proofs.Command.{the-type}
+use Rattle.commands2.proofs.EachCommand.{carried-or-other}
 use Rattle.commands2.proofs.right.Statement.{statement}
 use Rattle.commands2.proofs.right.Tie as tie
 
 not-other : (c : Command) → OneOf (0 ∷ 1 ∷ 2 ∷ 3 ∷ 4 ∷ 5 ∷ 6 ∷ 7 ∷ []) (tagOf the-type c) → isOther c ≡ false
-not-other (Init version) k = refl
-not-other (InitAck result) k = refl
-not-other (UnknownCommand echo) k = refl
-not-other Watchdog k = refl
-not-other GetStimulationMode k = refl
-not-other (GetStimulationModeAck result mode) k = refl
-not-other (InitChannelListMode list) k = refl
-not-other (InitChannelListModeAck result) k = refl
-not-other (Other number) k = absurd (miss (0 ∷ 1 ∷ 2 ∷ 3 ∷ 4 ∷ 5 ∷ 6 ∷ 7 ∷ []) 8 tt k)
+not-other c k =
+    ⊎-elim (λ e. e) (λ o. absurd (miss (0 ∷ 1 ∷ 2 ∷ 3 ∷ 4 ∷ 5 ∷ 6 ∷ 7 ∷ []) 8 tt (rw (o .1) at k))) (carried-or-other c)
 
 enum-told : tie.Need-enum-told
 enum-told c = c .match .keys1
