@@ -31,7 +31,7 @@ cast-t18 : tie.Need-cast-t18
 cast-t18 c = search needs
 
 mul-t19 : tie.Need-mul-t19
-mul-t19 c = omega (arith, byte-at c 4)
+mul-t19 c = omega (arith, byte-at c 4, byte-at c 5)
 
 array-read-t22 : tie.Need-array-read-t22
 array-read-t22 c = lit< tt
