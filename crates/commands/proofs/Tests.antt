@@ -40,3 +40,17 @@ first-none (t ∷ ts) us r e =
     let p = passed (t .holds) (t .answer) (firstOf (ts ++ us)) (r .0) e in
     let q = first-none ts us (r .1) (p .1) in
     (rw (p .0) (q .0), q .1)
+
+-- what is true of 0 and of each answer of a row of tests is true of the first's
+abbrev allPass : (ℕ → Bool) → List Test → Bool
+allPass f [] = true
+allPass f (t ∷ ts) = f (t .answer) && allPass f ts
+
+passes : (f : ℕ → Bool) (b : Bool) (a x : ℕ) → f a ≡ true → f x ≡ true → f (cond b a x) ≡ true
+passes f true a x p q = p
+passes f false a x p q = q
+
+pub first-passes : (f : ℕ → Bool) (ts : List Test) → f 0 ≡ true → allPass f ts ≡ true → f (firstOf ts) ≡ true
+first-passes f [] z h = z
+first-passes f (t ∷ ts) z h =
+    let p = both (f (t .answer)) (allPass f ts) h in passes f (t .holds) (t .answer) (firstOf ts) (p .0) (first-passes f ts z (p .1))

@@ -1,15 +1,15 @@
 -- Which answers the machine gives: 0 to 10, or, to a tick at the clock's end, 15, which leaves all. Assumes nothing.
 use Prim.Native.Nat.{ℕ, _≤_}
-use mathlib.Core.Bool.{Bool, true, false, _&&_}
+use mathlib.Core.Bool.{true, false}
 use mathlib.Core.Path.{_≡_, refl}
-use mathlib.Core.List.{List, [], _∷_, _++_}
+use mathlib.Core.List.{[], _∷_, _++_}
 use native.Mathlib.Omega.{arith}
 use lib.Dec.{leb, lit≤}
 use borrow.Author.Tests.{leb-true, lt-leb}
-use Rattle.commands.specs.Answers.{Test, _when_, firstOf}
-use Rattle.commands.proofs.Tests.{both}
+use Rattle.commands.specs.Answers.{_when_}
 use Rattle.commands.specs.Ranges.{within}
 use Rattle.commands.specs.Commands.{Command}
+use Rattle.commands.proofs.Tests.{first-passes}
 use Rattle.model.specs.declared.Profile.{Profile}
 use Rattle.model.specs.declared.Core.{Core}
 use Rattle.model.specs.State.{State, isTripped}
@@ -23,17 +23,6 @@ use Rattle.model.proofs.Cases.{tick-cases}
 pub data Way (s : State) (r : Result) : Type 0 where
   answers : r .answer ≤ 10 → Way s r
   ends : r ≡ record { state = s; answer = 15; reply = 0; records = [] } → Way s r
-
--- what is true of 0 and of each answer of a row of tests is true of the first's
-abbrev allPass : (ℕ → Bool) → List Test → Bool
-allPass f [] = true
-allPass f (t ∷ ts) = f (t .answer) && allPass f ts
-
-pub first-passes : (f : ℕ → Bool) (ts : List Test) → f 0 ≡ true → allPass f ts ≡ true → f (firstOf ts) ≡ true
-first-passes f [] z h = z
-first-passes f (t ∷ ts) z h =
-    let b = both (f (t .answer)) (allPass f ts) h in
-    either-way (t .holds) (λ e. rw e (b .0)) (λ e. rw e (first-passes f ts z (b .1)))
 
 judge-most : (p : Profile) (m : Core) (k : ℕ) (c : Command) → judge p m k c ≤ 10
 unfolding judge refusals

@@ -5,7 +5,7 @@ use mathlib.Core.Path.{_≡_, refl}
 use mathlib.Core.List.{List}
 use lib.Dec.{eqb}
 use borrow.Author.Tests.{eqb-true}
-use Rattle.commands.proofs.Tests.{both}
+use Rattle.commands.proofs.Tests.{both, first-passes}
 use Rattle.trace.specs.declared.Part.{Part}
 use Rattle.trace.specs.Ring.{readyTests, readyAnswer}
 use Rattle.model.specs.Machine.{Call}
@@ -16,7 +16,6 @@ use Rattle.outcome.specs.Claims.{stepped}
 use Rattle.outcome.proofs.Calls.{good-taken}
 use Rattle.calls.specs.Filed.{Answered}
 use Rattle.calls.specs.Calls.{refusalOf, turnedAway, stepFiled, callOf}
-use Rattle.demands.proofs.Answers.{first-passes}
 
 module _ (b : Box) (buf : List ℕ) (at : Part) where
   -- a good box with its ring in its place is given the step, and any other is turned away

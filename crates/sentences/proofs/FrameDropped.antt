@@ -4,6 +4,7 @@ use mathlib.Core.Bool.{true, not, false≢true}
 use mathlib.Core.Path.{_≡_, refl}
 use mathlib.Core.List.{List, [], _∷_}
 use borrow.Author.Tests.{not-true}
+use Rattle.commands.specs.Answers.{isOneOf}
 use Rattle.commands.specs.Commands.{Command, identOf}
 use Rattle.frames.specs.Layout.{checkIn}
 use Rattle.trace.specs.declared.Part.{Part}
@@ -26,7 +27,6 @@ use Rattle.said.specs.Said.{pulseOf, saidOf}
 use Rattle.outcome.specs.Claims.{stepped}
 use Rattle.calls.specs.Calls.{stepFiled}
 use Rattle.demands.proofs.Filed.{filed-outside, filed-capacity}
-use Rattle.sentences.specs.WhichAnswers.{isOneOf}
 use Rattle.sentences.specs.FrameDropped.{dropping, Dropped, DropsFrame}
 use Rattle.sentences.proofs.Calls.{call-ways, refusal-passes}
 

@@ -9,6 +9,7 @@ use lib.ListN.{length, length-append}
 use borrow.Author.Tests.{eq-eqb, ne-eqb, not-true}
 use Rattle.bits.specs.High.{high}
 use Rattle.commands.specs.declared.Setting.{Setting}
+use Rattle.commands.specs.Answers.{isOneOf}
 use Rattle.commands.specs.Commands.{Command.update, checkOf}
 use Rattle.frames.specs.Layout.{identIn, checkIn}
 use Rattle.frames.proofs.Idents.{update-here}
@@ -25,7 +26,6 @@ use Rattle.model.proofs.Cases.{carry-cases, tick-cases}
 use Rattle.model.proofs.GoodStates.{state-facts}
 use Rattle.model.proofs.Quiet.{tripped-tick}
 use Rattle.partial.proofs.Facts.{open-facts}
-use Rattle.sentences.specs.WhichAnswers.{isOneOf}
 use Rattle.sentences.specs.LeftOpen.{UpdateOpen, toCome, lowOrTick, LowOrTicks, finishing, lessBy, Finishes, FinishesTripped, StillFinishes}
 use Rattle.sentences.proofs.Trips.{tick-trips}
 

@@ -6,9 +6,9 @@ use mathlib.Core.List.{List, [], _∷_, _++_, map}
 use native.Mathlib.Omega.{arith}
 use lib.Dec.{ltb, eqb}
 use lib.ListN.{length}
-use Rattle.commands.specs.Answers.{Test, _when_, firstOf}
+use Rattle.commands.specs.Answers.{Test, _when_, firstOf, isOneOf, Gives}
 use Rattle.commands.specs.Commands.{Command, good}
-use Rattle.commands.proofs.Tests.{both}
+use Rattle.commands.proofs.Tests.{both, first-passes}
 use Rattle.frames.specs.Layout.{commandIn, checkIn}
 use Rattle.frames.specs.Bytes.{frameSize}
 use Rattle.frames.specs.Reader.{shapeTests, valueTests, readFrame}
@@ -28,8 +28,8 @@ use Rattle.said.specs.Said.{saidOf}
 use Rattle.calls.specs.Making.{makeOf}
 use Rattle.calls.specs.Calls.{stepFiled}
 use Rattle.calls.specs.Readout.{readoutOf}
-use Rattle.demands.proofs.Answers.{first-passes, byte-most}
-use Rattle.sentences.specs.WhichAnswers.{isOneOf, toByte, toTick, toReadout, toMaking, ofReader, ofWriter, Gives}
+use Rattle.demands.proofs.Answers.{byte-most}
+use Rattle.sentences.specs.WhichAnswers.{toByte, toTick, toReadout, toMaking, ofReader, ofWriter}
 use Rattle.sentences.proofs.Calls.{call-ways, refusal-passes}
 
 -- each of these is one of the numbers

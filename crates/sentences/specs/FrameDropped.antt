@@ -4,6 +4,7 @@ use mathlib.Core.Bool.{true}
 use mathlib.Core.Path.{_≡_}
 use mathlib.Core.List.{List, [], _∷_}
 use lib.ListN.{getD}
+use Rattle.commands.specs.Answers.{isOneOf}
 use Rattle.trace.specs.declared.Part.{Part}
 use Rattle.trace.specs.Claims.{Outside}
 use Rattle.model.specs.State.{noFrame}
@@ -13,7 +14,6 @@ use Rattle.record.specs.declared.Box.{Box}
 use Rattle.outcome.specs.Claims.{places}
 use Rattle.calls.specs.Filed.{Answered}
 use Rattle.calls.specs.Calls.{callOf}
-use Rattle.sentences.specs.WhichAnswers.{isOneOf}
 
 -- the answers for which the table says "frame dropped"
 abbrev pub dropping : List ℕ

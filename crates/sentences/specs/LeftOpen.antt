@@ -6,12 +6,12 @@ use mathlib.Core.Path.{_≡_}
 use mathlib.Core.List.{List, [], _∷_}
 use lib.ListN.{length}
 use Rattle.bits.specs.High.{high}
+use Rattle.commands.specs.Answers.{isOneOf}
 use Rattle.frames.specs.Layout.{identIn}
 use Rattle.model.specs.declared.Profile.{Profile}
 use Rattle.model.specs.State.{State, isTripped}
 use Rattle.model.specs.Machine.{Call, Call.byte, Call.tick, step}
 use Rattle.model.specs.Good.{goodState}
-use Rattle.sentences.specs.WhichAnswers.{isOneOf}
 
 -- an Update is open, and so many of its bytes are to come
 abbrev pub UpdateOpen : State → Type 0

@@ -1,10 +1,8 @@
 -- Document 01, "Numbers the box answers": the column "Given when", read call by call. Which numbers each call gives: no other, and each
 -- of them to something.
 use Prim.Native.Nat.{ℕ}
-use mathlib.Core.Bool.{Bool, true, false, _||_}
-use mathlib.Core.Path.{_≡_}
-use mathlib.Core.List.{List, [], _∷_, map}
-use lib.Dec.{eqb}
+use mathlib.Core.List.{List, [], _∷_}
+use Rattle.commands.specs.Answers.{Gives}
 use Rattle.commands.specs.Commands.{Command}
 use Rattle.frames.specs.Reader.{readFrame}
 use Rattle.writers.specs.Writer.{wrote}
@@ -15,17 +13,6 @@ use Rattle.record.specs.declared.Box.{Box}
 use Rattle.calls.specs.Making.{makeOf}
 use Rattle.calls.specs.Calls.{callOf}
 use Rattle.calls.specs.Readout.{readoutOf}
-
--- a number is one of these
-abbrev pub isOneOf : List ℕ → ℕ → Bool
-isOneOf [] n = false
-isOneOf (a ∷ rest) n = eqb n a || isOneOf rest n
-
--- what is answered to any input is one of these numbers, and to some inputs it is each of them in turn
-pub record Gives {I : Type 0} (answerTo : I → ℕ) (numbers : List ℕ) : Type 0 where
-  pub no-other : (x : I) → isOneOf numbers (answerTo x) ≡ true
-  pub inputs : List I
-  pub each : map answerTo inputs ≡ numbers
 
 -- a box record, a buffer and a part; for a readout, how many bytes the output has
 abbrev pub toByte : Box × List ℕ × Part × ℕ → ℕ
