@@ -1,0 +1,5 @@
+pub mod Line
+pub mod Demand1
+pub mod WhichAnswers
+pub mod RoundTrips
+pub mod Row

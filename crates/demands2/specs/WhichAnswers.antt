@@ -1,0 +1,19 @@
+-- Which numbers reader and writer of packets answer (request 12): no other, and each of them to something.
+use Prim.Native.Nat.{ℕ}
+use mathlib.Core.List.{List, [], _∷_}
+use Rattle.commands.specs.Answers.{Gives}
+use Rattle.commands2.specs.declared.Command.{Command}
+use Rattle.reader2.specs.Reader.{readPacket}
+use Rattle.writer2.specs.Writer.{wrote}
+
+-- bytes, and how much room the output has
+abbrev pub ofReader : List ℕ × ℕ → ℕ
+ofReader x = readPacket (x .0) (x .1) .answer
+
+-- a packet number, a command and an output
+abbrev pub ofWriter : ℕ × Command × List ℕ → ℕ
+ofWriter x = wrote (x .0) (x .1) (x .2) .answer
+
+pub record AnswersGiven : Type 0 where
+  pub reader-gives : Gives ofReader (0 ∷ 1 ∷ 3 ∷ 4 ∷ 16 ∷ [])
+  pub writer-gives : Gives ofWriter (0 ∷ 4 ∷ 16 ∷ [])
