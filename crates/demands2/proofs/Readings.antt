@@ -6,7 +6,7 @@ use mathlib.Core.List.{List, _++_}
 use native.Mathlib.Omega.{arith}
 use lib.Dec.{eqb, ltb}
 use lib.ListN.{length, drop}
-use borrow.Author.Tests.{eqb-true, eqb-false, ltb-false, not-false, le-ltb}
+use borrow.Author.Tests.{eqb-true, eqb-false, ltb-false, not-false, le-ltb, ne-eqb}
 use Rattle.commands.proofs.Tests.{passed}
 use Rattle.stuffing.specs.Stuffing.{pairsGood}
 use Rattle.framing.specs.Scan.{firstFound, bodyAt}
@@ -54,6 +54,29 @@ putOver d out = d ++ drop (length d) out
 -- where a packet was finished and its body is answered a
 abbrev pub refusedAs : ℕ → ℕ → Read
 refusedAs a used = refused a (cond (eqb a 16) 0 used)
+
+-- ---- by what is found
+
+pub unfinished : (s : List ℕ) (room : ℕ) → firstFound s .used ≡ 0 → readPacket s room ≡ refused 1 0
+unfolding readPacket
+unfinished s room e = rw e
+
+pub finished : (s : List ℕ) (room : ℕ) → (firstFound s .used ≡ 0 → ⊥)
+    → readPacket s room ≡ answered (bodyAnswer (bodyIn s) room) (covered (bodyIn s)) (firstFound s .used)
+unfolding readPacket
+finished s room n = rw (ne-eqb (firstFound s .used) 0 n)
+
+-- where the same body is found before the same place, the same is read
+module _ (s t : List ℕ) (place : firstFound s .used ≡ firstFound t .used) (body : bodyIn s ≡ bodyIn t) where
+  pub same-read : (room : ℕ) → readPacket s room ≡ readPacket t room
+  unfolding readPacket
+  same-read room = rw (body, place)
+
+  pub same-put : (out : List ℕ) → dataPut s out ≡ dataPut t out
+  unfolding dataPut
+  same-put out = rw (body, place)
+
+-- ---- the ways
 
 module _ (P : Read → List ℕ → Type 0) where
   answer-ways : (a : ℕ) (c : List ℕ) (used : ℕ) (out : List ℕ)
