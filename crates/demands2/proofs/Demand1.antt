@@ -1,23 +1,23 @@
 -- Demand 1. Assumes nothing.
 use Prim.Native.Nat.{ℕ, _≤_}
 use mathlib.Core.Bool.{Bool, true, false, cond, not, _||_}
-use mathlib.Core.Path.{_≡_, refl}
+use mathlib.Core.Path.{_≡_, refl, ap}
 use mathlib.Core.List.{List, [], _∷_}
 use native.Mathlib.Omega.{arith}
-use lib.Dec.{eqb, ltb}
+use lib.Dec.{eqb}
 use lib.ListN.{length, drop, length-append, length-drop}
 use lib.Seq.{drop-append-seam}
-use borrow.Author.Tests.{eqb-true, ltb-false, not-true}
+use borrow.Author.Tests.{eqb-true, eqb-false, not-true}
 use Rattle.commands.specs.Answers.{isOneOf}
-use Rattle.commands.proofs.Tests.{first-passes, passed}
+use Rattle.commands.proofs.Tests.{first-passes}
 use Rattle.framing.specs.Scan.{firstFound}
 use Rattle.commands2.specs.declared.Command.{Command}
-use Rattle.commands2.specs.Commands.{good}
 use Rattle.reader2.specs.declared.Read.{Read}
 use Rattle.reader2.specs.Reader.{covered, dataIn, refused, found, bodyTests, bodyAnswer, readPacket, dataPut}
-use Rattle.writer2.specs.Writer.{packetBytes, writeAnswer, wrote, written}
+use Rattle.writer2.specs.Writer.{packetBytes, writeAnswer, wrote}
 use Rattle.demands2.specs.Demand1.{ReaderKeeps, WriterKeeps, Demand1}
 use Rattle.demands2.proofs.Readings.{bodyIn, putOver, read-ways}
+use Rattle.demands2.proofs.Writings.{room-written, used-written, bytes-written, none-used, none-written}
 
 length-over : (d out : List ℕ) → length d ≤ length out → length (putOver d out) ≡ length out
 length-over d out fits = omega (arith, length-append d (drop (length d) out), length-drop (length d) out)
@@ -67,24 +67,23 @@ reader-keeps s out =
 -- ---- the writer
 
 writer-keeps : (packet : ℕ) (c : Command) (out : List ℕ) → WriterKeeps packet c out
-unfolding wrote written
+unfolding wrote
 writer-keeps packet c out = by (eqb (writeAnswer packet c out) 0) refl
   where
-    p : List ℕ
-    p = packetBytes packet c
-
     by : (t : Bool) → eqb (writeAnswer packet c out) 0 ≡ t → WriterKeeps packet c out
     by true e =
-        let z : writeAnswer packet c out ≡ 0 = eqb-true (writeAnswer packet c out) 0 e in
-        let tests = passed (not (good c)) 4 _ (omega arith) z in
-        let fits = ltb-false (length out) (length p) (passed (ltb (length out) (length p)) 16 0 (omega arith) (tests .1) .0) in
+        let done = eqb-true (writeAnswer packet c out) 0 e in
+        let p = packetBytes packet c in
         record {
-          size = rw e (length-over p out fits);
-          past = rw e (drop-append-seam p (drop (length p) out));
-          leaves = λ n. absurd (n z);
-          unused = λ n. absurd (n z);
+          size = rw (bytes-written packet c out done) (length-over p out (room-written packet c out done));
+          past = rw (bytes-written packet c out done, used-written packet c out done) (drop-append-seam p (drop (length p) out));
+          leaves = λ n. absurd (n done);
+          unused = λ n. absurd (n done);
         }
-    by false e = record { size = rw e refl; past = rw e refl; leaves = rw e (λ n. refl); unused = rw e (λ n. refl) }
+    by false e =
+        let refused = eqb-false (writeAnswer packet c out) 0 e in
+        let same = none-written packet c out refused in
+        record { size = ap length same; past = ap (drop (wrote packet c out .used)) same; leaves = λ n. same; unused = λ n. none-used packet c out refused }
 
 pub demand1 : Demand1
 demand1 = record { readers = reader-keeps; writers = writer-keeps }

@@ -1,8 +1,10 @@
 pub mod Readings
+pub mod Writings
 pub mod Demand1
 pub mod WhichAnswers
-pub mod Examples
-pub mod Content
 pub mod Behind
+pub mod Content
+pub mod ReadsBack
 pub mod RestUnused
 pub mod Row
+pub mod Examples

@@ -1,7 +1,7 @@
 -- The ways that a reading goes. Assumes nothing.
 use Prim.Native.Nat.{ℕ, _≤_}
 use mathlib.Core.Bool.{Bool, true, false, cond, not}
-use mathlib.Core.Path.{_≡_, refl}
+use mathlib.Core.Path.{_≡_, refl, _∙_}
 use mathlib.Core.List.{List, _++_}
 use native.Mathlib.Omega.{arith}
 use lib.Dec.{eqb, ltb}
@@ -65,6 +65,16 @@ pub finished : (s : List ℕ) (room : ℕ) → (firstFound s .used ≡ 0 → ⊥
     → readPacket s room ≡ answered (bodyAnswer (bodyIn s) room) (covered (bodyIn s)) (firstFound s .used)
 unfolding readPacket
 finished s room n = rw (ne-eqb (firstFound s .used) 0 n)
+
+-- a packet that passes is read, and its data put to the output
+module _ (s out : List ℕ) (some : firstFound s .used ≡ 0 → ⊥) (passed : Passed (bodyIn s) (length out)) where
+  pub read-found : readPacket s (length out) ≡ found (covered (bodyIn s)) (firstFound s .used)
+  unfolding answered
+  read-found = finished s (length out) some ∙ rw (passing (bodyIn s) (length out) passed)
+
+  pub put-found : dataPut s out ≡ putOver (dataIn (covered (bodyIn s))) out
+  unfolding dataPut put
+  put-found = rw (ne-eqb (firstFound s .used) 0 some, passing (bodyIn s) (length out) passed)
 
 -- where the same body is found before the same place, the same is read
 module _ (s t : List ℕ) (place : firstFound s .used ≡ firstFound t .used) (body : bodyIn s ≡ bodyIn t) where
