@@ -5,6 +5,11 @@ pub mod WhichAnswers
 pub mod Behind
 pub mod Content
 pub mod ReadsBack
+pub mod Ends
+pub mod Bytes
+pub mod WritesBack
 pub mod RestUnused
+pub mod Room
+pub mod Along
 pub mod Row
 pub mod Examples

@@ -1,7 +1,7 @@
 -- The ways that a reading goes. Assumes nothing.
 use Prim.Native.Nat.{ℕ, _≤_}
 use mathlib.Core.Bool.{Bool, true, false, cond, not}
-use mathlib.Core.Path.{_≡_, refl, _∙_}
+use mathlib.Core.Path.{_≡_, refl, sym, ap, _∙_}
 use mathlib.Core.List.{List, _++_}
 use native.Mathlib.Omega.{arith}
 use lib.Dec.{eqb, ltb}
@@ -65,6 +65,22 @@ pub finished : (s : List ℕ) (room : ℕ) → (firstFound s .used ≡ 0 → ⊥
     → readPacket s room ≡ answered (bodyAnswer (bodyIn s) room) (covered (bodyIn s)) (firstFound s .used)
 unfolding readPacket
 finished s room n = rw (ne-eqb (firstFound s .used) 0 n)
+
+answered-is : (a : ℕ) (c : List ℕ) (used : ℕ) → answered a c used .answer ≡ a
+unfolding answered
+answered-is a c used = by (eqb a 0) refl
+  where
+    by : (t : Bool) → eqb a 0 ≡ t → cond t (found c used) (refusedAs a used) .answer ≡ a
+    by true e = sym (eqb-true a 0 e)
+    by false e = refl
+
+-- what is answered 0 is finished and passes
+pub taken : (s : List ℕ) (room : ℕ) → readPacket s room .answer ≡ 0 → (firstFound s .used ≡ 0 → ⊥) × Passed (bodyIn s) room
+taken s room e =
+    let some : firstFound s .used ≡ 0 → ⊥ = λ z. omega (arith, ap (λ (r : Read). r .answer) (unfinished s room z)) in
+    let a = bodyAnswer (bodyIn s) room in
+    let same = ap (λ (r : Read). r .answer) (finished s room some) ∙ answered-is a (covered (bodyIn s)) (firstFound s .used) in
+    (some, passes (bodyIn s) room (sym same ∙ e))
 
 -- a packet that passes is read, and its data put to the output
 module _ (s out : List ℕ) (some : firstFound s .used ≡ 0 → ⊥) (passed : Passed (bodyIn s) (length out)) where
