@@ -43,9 +43,9 @@ module _ (g p rest : List ℕ) (garbage : Garbage g) (alone : Alone p) where
 
 -- ---- before any bytes
 
-module _ (s rest : List ℕ) (finished : firstFound s .used ≡ 0 → ⊥) where
+module _ (s rest : List ℕ) (some : firstFound s .used ≡ 0 → ⊥) where
   pub found-still : firstFound (s ++ rest) ≡ firstFound s
-  found-still = scan-rest s rest finished
+  found-still = scan-rest s rest some
 
   pub body-still : bodyIn (s ++ rest) ≡ bodyIn s
   unfolding bodyAt

@@ -60,8 +60,8 @@ reader-keeps s out =
     let k : Kept out (readPacket s (length out)) (dataPut s out) =
     read-ways (Kept out) s out
     (λ _. refusal-keeps out 1 0 (λ _. refl))
-    (λ finished p. found-keeps out (covered body) (firstFound s .used) (p .fits))
-    (λ finished n. refusal-keeps out a _ (sixteen-unused (eqb a 1) (eqb a 16) (firstFound s .used) (body-not-1 body (length out)))) in
+    (λ some p. found-keeps out (covered body) (firstFound s .used) (p .fits))
+    (λ some n. refusal-keeps out a _ (sixteen-unused (eqb a 1) (eqb a 16) (firstFound s .used) (body-not-1 body (length out)))) in
     record { size = k .size; past = k .past; leaves = k .leaves; zeros = k .zeros; unused = k .unused }
 
 -- ---- the writer

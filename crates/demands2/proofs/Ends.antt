@@ -24,16 +24,15 @@ record Ends (s : List ℕ) (f : Found) : Type 0 where
   start : getD s (f .body - 1) 0 ≡ startByte
   stop : getD s (f .used - 1) 0 ≡ stopByte
 
-module _ (prev body b : ℕ) where
-  closed : closes prev body b ≡ true → (b ≡ stopByte) × (0 < body)
-  unfolding closes
-  closed e =
-      let p = both (eqb b stopByte) (ltb 0 body) (both (not (eqb prev stuffingByte)) _ e .1) in
-      (eqb-true b stopByte (p .0), ltb-true 0 body (p .1))
+closed : (prev body b : ℕ) → closes prev body b ≡ true → (b ≡ stopByte) × (0 < body)
+unfolding closes
+closed prev body b e =
+    let p = both (eqb b stopByte) (ltb 0 body) (both (not (eqb prev stuffingByte)) _ e .1) in
+    (eqb-true b stopByte (p .0), ltb-true 0 body (p .1))
 
-  started : opens prev b ≡ true → b ≡ startByte
-  unfolding opens
-  started e = eqb-true b startByte (both (not (eqb prev stuffingByte)) _ e .1)
+started : (prev b : ℕ) → opens prev b ≡ true → b ≡ startByte
+unfolding opens
+started prev b e = eqb-true b startByte (both (not (eqb prev stuffingByte)) _ e .1)
 
 module _ (s : List ℕ) where
   -- a body that is open lies behind a start
@@ -45,7 +44,7 @@ module _ (s : List ℕ) where
   next-started prev body b at e h = by (opens prev b) refl
     where
       by : (t : Bool) → opens prev b ≡ t → Started (cond t (at + 1) body)
-      by true o k = ap (λ (i : ℕ). getD s i 0) (omega arith) ∙ sym e ∙ started prev body b o
+      by true o k = ap (λ (i : ℕ). getD s i 0) (omega arith) ∙ sym e ∙ started prev b o
       by false o k = h k
 
   -- l are the bytes of s from place at on

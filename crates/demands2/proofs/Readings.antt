@@ -126,7 +126,7 @@ module _ (P : Read → List ℕ → Type 0) where
           (t : Bool) → eqb used 0 ≡ t → P (cond t (refused 1 0) (answered a (covered body) used)) (cond t out (put a (covered body) out))
       by true e = none (eqb-true (firstFound s .used) 0 e)
       by false e =
-          let finished = eqb-false (firstFound s .used) 0 e in
+          let some = eqb-false (firstFound s .used) 0 e in
           let body = bodyIn s in
           answer-ways (bodyAnswer body (length out)) (covered body) (firstFound s .used) out
-          (λ z. takes finished (passes body (length out) z)) (refuses finished)
+          (λ z. takes some (passes body (length out) z)) (refuses some)

@@ -11,7 +11,7 @@ use Rattle.demands2.proofs.Behind.{found-still, body-still}
 
 pub rest-unused : RestUnused
 rest-unused s rest out n =
-    let finished : firstFound s .used ≡ 0 → ⊥ = λ e. n (ap (λ (r : Read). r .answer) (unfinished s (length out) e)) in
-    let place = ap (λ (f : Found). f .used) (found-still s rest finished) in
-    let body = body-still s rest finished in
+    let some : firstFound s .used ≡ 0 → ⊥ = λ e. n (ap (λ (r : Read). r .answer) (unfinished s (length out) e)) in
+    let place = ap (λ (f : Found). f .used) (found-still s rest some) in
+    let body = body-still s rest some in
     (same-read (s ++ rest) s place body (length out), same-put (s ++ rest) s place body out)

@@ -15,11 +15,12 @@ use Rattle.reader2.specs.Reader.{covered, answered, bodyAnswer, readPacket}
 use Rattle.writer2.specs.Writer.{headerOf, framed, contentOf}
 use Rattle.demands2.specs.Line.{Open, Garbage, Alone}
 use Rattle.demands2.specs.Row.{moved, enough, readings, Resynchronises, WrittenAlone}
-use Rattle.demands2.proofs.Readings.{bodyIn, unfinished, finished, same-read}
+use Rattle.demands2.proofs.Readings.{bodyIn, finished, same-read}
 use Rattle.demands2.proofs.Behind.{long-alone, found-there, body-there, found-still, body-still}
 use Rattle.demands2.proofs.Room.{has-room, answered-moved}
 use Rattle.demands2.proofs.Along.{zero-or, usedIn, used-most, along-none, readings-some}
 
+-- what is left of such bytes is so too
 open-drop : (n : ℕ) (g : List ℕ) (prev : ℕ) → (lastOf prev g ≡ stuffingByte → ⊥) → Open (drop n g)
 unfolding lastOf
 open-drop zero [] prev h e = omega arith

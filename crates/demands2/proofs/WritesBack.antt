@@ -23,13 +23,12 @@ use Rattle.demands2.proofs.Bytes.{data-bytes}
 use Rattle.demands2.proofs.Ends.{packet-is}
 use Rattle.demands2.proofs.Content.{made-again}
 
--- ---- a packet that was read
-
 two-first : (l : List ℕ) → 2 ≤ length l → getD l 0 0 ∷ getD l 1 0 ∷ drop 2 l ≡ l
 two-first [] h = absurd (omega arith)
 two-first (a ∷ []) h = absurd (omega arith)
 two-first (a ∷ b ∷ l) h = refl
 
+-- a packet that passed
 module _ (s : List ℕ) (room : ℕ) (some : firstFound s .used ≡ 0 → ⊥) (passed : Passed (bodyIn s) room) where
   abbrev c : List ℕ
   c = covered (bodyIn s)
