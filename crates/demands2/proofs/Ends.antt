@@ -79,7 +79,8 @@ packet-is s some =
     drop-cons s (f .body - 1) 0 first ∙ ap₂ (λ (x i : ℕ). x ∷ drop i s) (e .start) second in
     let last : n < length (drop (f .body) s) = omega (arith, length-drop (f .body) s) in
     let there : f .body + n ≡ f .used - 1 = omega arith in
-    rw (all, from)
-    (ap (λ (x : List ℕ). startByte ∷ x)
+    ap (λ (k : ℕ). take k (drop (f .body - 1) s)) all
+    ∙ ap (take (suc (suc n))) from
+    ∙ ap (λ (x : List ℕ). startByte ∷ x)
     (take-suc (drop (f .body) s) n 0 last
-    ∙ ap (λ (x : ℕ). take n (drop (f .body) s) ++ x ∷ []) (getD-drop (f .body) s n 0 ∙ ap (λ (i : ℕ). getD s i 0) there ∙ e .stop)))
+    ∙ ap (λ (x : ℕ). take n (drop (f .body) s) ++ x ∷ []) (getD-drop (f .body) s n 0 ∙ ap (λ (i : ℕ). getD s i 0) there ∙ e .stop))
