@@ -1,25 +1,28 @@
-//! A second codec of the four ScienceMode command frames, a second trace ring and a second box,
-//! written from the papers alone and sharing nothing with the library that they are compared with.
-//! Where a push meets bytes that do not split, which no paper speaks of, the ring follows the
-//! repository's decision.
+//! A second codec of the four ScienceMode command frames, a second trace ring and a second box, and a
+//! second codec of ScienceMode2 packets, written from the papers alone and sharing nothing with the
+//! library that they are compared with. Where a push meets bytes that do not split, which no paper
+//! speaks of, the ring follows the repository's decision.
 //!
 //! Source 003 is "ScienceMode - RehaStim Stimulation Device", 21st September 2009; document 01 is
 //! the specification of this repository, which rules where source 003 leaves a choice.
 //!
-//! The codec works on lists of bits: `tables` has the papers' tables as data, `walk` goes along them
-//! bit by bit, and `codec` puts the tests of document 01 in their order.
+//! The codec of frames works on lists of bits: `tables` has the papers' tables as data, `walk` goes
+//! along them bit by bit, and `codec` puts the tests of document 01 in their order.
 //!
 //! The ring is there twice: `trace` has it from the records pushed, `ring` from the bytes of a
 //! buffer, whoever wrote them.
 //!
-//! These are slow and near to the papers. `plain` has the codec and the ring once more, and the box,
-//! as fast as plain safe Rust can be made.
+//! `rehastim2` has the packets, as a grammar.
+//!
+//! These are slow and near to the papers. `plain` has the codec of frames and the ring once more, and
+//! the box, as fast as plain safe Rust can be made.
 
 mod codec;
 mod command;
 mod good;
 pub mod plain;
 mod record;
+pub mod rehastim2;
 mod ring;
 mod tables;
 mod trace;
