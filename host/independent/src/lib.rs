@@ -14,8 +14,8 @@
 //!
 //! `rehastim2` has the packets, as a grammar.
 //!
-//! These are slow and near to the papers. `plain` has the codec of frames and the ring once more, and
-//! the box, as fast as plain safe Rust can be made.
+//! These are slow and near to the papers. `plain` has the codecs and the ring once more, and the box,
+//! as fast as plain safe Rust can be made.
 
 mod codec;
 mod command;

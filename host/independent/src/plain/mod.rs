@@ -1,7 +1,8 @@
-//! Codec, ring and box in plain safe Rust, made to be fast: in place, without allocation, by shifts
+//! Codecs, ring and box in plain safe Rust, made to be fast: in place, without allocation, by shifts
 //! and masks. The entry points are never inlined, so that a call is a call.
 
 mod answer;
 pub mod codec;
 pub mod machine;
+pub mod rehastim2;
 pub mod ring;

@@ -47,7 +47,7 @@ impl Command {
     }
 
     /// The command data, whether or not the values are good. Of another command there is none.
-    pub(super) fn data(&self) -> Vec<u8> {
+    pub fn data(&self) -> Vec<u8> {
         match *self {
             Command::Init { version: byte } | Command::UnknownCommand { echo: byte } => vec![byte],
             Command::InitAck { result }

@@ -1,9 +1,11 @@
-//! The fast codec and the fast ring against the slow ones; the box against what document 01 says
+//! The fast codecs and the fast ring against the slow ones; the box against what document 01 says
 //! outright, and along random histories.
 
 mod naive;
 mod played;
 mod random;
+#[path = "../../../tests/shared/random_packets.rs"]
+mod random_packets;
 mod script;
 #[path = "../../../tests/shared/seeded.rs"]
 mod seeded;
@@ -11,6 +13,7 @@ mod seeded;
 mod codec;
 mod damage;
 mod histories;
+mod packets;
 mod pairs;
 mod papers;
 mod profiles;

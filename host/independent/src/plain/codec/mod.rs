@@ -1,4 +1,4 @@
-//! The codec by shifts and masks.
+//! The codec of frames by shifts and masks.
 //!
 //! A Check is a sum modulo 8 or 32, both of which divide 256: the sums are of bytes and may wrap.
 
@@ -29,11 +29,11 @@ pub struct Wrote {
 }
 
 impl Wrote {
-    fn refused(answer: u8) -> Wrote {
+    pub(super) fn refused(answer: u8) -> Wrote {
         Wrote { answer, used: 0 }
     }
 
-    fn all(used: usize) -> Wrote {
+    pub(super) fn all(used: usize) -> Wrote {
         Wrote { answer: super::answer::DONE, used }
     }
 }

@@ -1,0 +1,30 @@
+//! The packets of source 000 by words of eight bytes and tables.
+
+mod checksum;
+mod framing;
+mod read;
+mod stuffing;
+mod values;
+mod write;
+
+pub use read::{read, Read};
+pub use write::write;
+
+/// Table 6.
+const START: u8 = 0xF0;
+const STOP: u8 = 0x0F;
+const STUFFING: u8 = 0x81;
+const KEY: u8 = 0x55;
+
+/// The values of section 3 that request 12 names.
+const INIT: u8 = 1;
+const INIT_ACK: u8 = 2;
+const UNKNOWN_COMMAND: u8 = 3;
+const WATCHDOG: u8 = 4;
+const GET_STIMULATION_MODE: u8 = 10;
+const GET_STIMULATION_MODE_ACK: u8 = 11;
+const INIT_CHANNEL_LIST_MODE: u8 = 30;
+const INIT_CHANNEL_LIST_MODE_ACK: u8 = 31;
+
+/// Packet number and command, and "Command data < 61 Byte".
+const MOST: usize = 2 + 60;
