@@ -1,12 +1,12 @@
 //! Safe calls to the proved guard unit of document 01: its box, its trace ring, and the reader and
-//! writer of ScienceMode frames.
+//! writer of ScienceMode frames; and to the proved reader and writer of ScienceMode2 packets.
 //!
-//! [`Guard`], [`records()`] for its trace, and [`read()`], [`write()`] and [`reply()`] for frames, are
-//! what a host program uses. [`calls`] has one function for each export of the library, for tests
+//! [`Guard`], [`records()`] for its trace, [`read()`], [`write()`] and [`reply()`] for frames, and
+//! [`rehastim2`] for packets, are what a host program uses. [`calls`] has one function for each export of the library, for tests
 //! that drive them one by one. Clocks count tenths of a millisecond.
 //!
 //! `cargo test` in this folder has the library proved and built first, and compares it with the
-//! codec, the ring and the machine in `independent/`, which share nothing with it.
+//! codecs, the ring and the machine in `independent/`, which share nothing with it.
 
 mod answer;
 mod box_record;
@@ -19,6 +19,7 @@ mod profile;
 pub mod raw;
 mod records;
 mod refusal;
+pub mod rehastim2;
 mod state;
 mod told;
 

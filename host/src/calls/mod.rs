@@ -4,9 +4,12 @@
 //!
 //! A function's refusals are document 01's numbers in the order in which it tests them. One that
 //! refuses leaves everything as it was.
+//!
+//! The calls for the packets of a device are in a module of that device's name.
 
 mod boxes;
 mod frames;
+pub mod rehastim2;
 mod ring;
 
 pub use boxes::*;

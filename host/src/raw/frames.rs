@@ -52,13 +52,14 @@ pub struct Single {
     pub current: u8,
 }
 
-/// What a writer reports.
+/// What a writer of frames or of packets reports.
 #[derive(Clone, Copy, Debug, Default, PartialEq, Eq)]
 #[repr(C)]
 pub struct Wrote {
-    /// Document 01's number: 0, or 4 or 16 if no frame was written.
+    /// Document 01's number: 0, or 4 or 16 if nothing was written.
     pub answer: u8,
-    /// How many bytes of the output the frame has, 1 to 25; 0 if none was written.
+    /// How many bytes of the output the frame has, 1 to 25, or the packet, 8 to 20; 0 if none was
+    /// written.
     pub used: u8,
 }
 

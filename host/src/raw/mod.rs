@@ -12,8 +12,10 @@
 
 mod boxes;
 mod frames;
+mod packets;
 mod ring;
 
 pub use boxes::*;
 pub use frames::*;
+pub use packets::*;
 pub use ring::*;

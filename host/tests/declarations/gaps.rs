@@ -44,6 +44,18 @@ fn all() -> Vec<Layout> {
         ReadUpdate { answer, ident, used, settings }
         ReadStop { answer, ident, used }
         ReadSingle { answer, ident, used, single }
+        ReadPacket {
+            used, answer, packet, command, size, version, echo, mode, result, factor, active, lf,
+            inter, main, execution
+        }
+        ReadEmpty { used, answer, packet, command, size }
+        ReadVersion { used, answer, packet, command, size, version }
+        ReadEcho { used, answer, packet, command, size, echo }
+        ReadResult { used, answer, packet, command, size, result }
+        ReadMode { used, answer, packet, command, size, result, mode }
+        ReadList {
+            used, answer, packet, command, size, factor, active, lf, inter, main, execution
+        }
         Part { offset, size }
         Ring { capacity, start, used }
         Pushed { answer, ring }
