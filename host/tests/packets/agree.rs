@@ -56,9 +56,13 @@ pub fn read(bytes: &[u8], room: usize) -> Reading {
     let echo = all.echo.into();
     assert_eq!(read, ReadEcho { used, answer, packet, command, size, echo }, "{}", told());
 
-    let [answer_, packet_, command_, size_] = [answer, packet, command, size].map(u16::from);
-    let empty =
-        ReadEmpty { used, answer: answer_, packet: packet_, command: command_, size: size_ };
+    let empty = ReadEmpty {
+        used,
+        answer: answer.into(),
+        packet: packet.into(),
+        command: command.into(),
+        size: size.into(),
+    };
     let read = lent(true, room, data, |out| calls::read_watchdog(bytes, out));
     assert_eq!(read, empty, "{}", told());
     let read = lent(false, room, data, |out| calls::read_get_stimulation_mode(bytes, out));
@@ -66,8 +70,7 @@ pub fn read(bytes: &[u8], room: usize) -> Reading {
 
     let read = lent(true, room, data, |out| calls::read_get_stimulation_mode_ack(bytes, out));
     let (result, mode) = (of(11, all.result).into(), all.mode.into());
-    let expected_mode = ReadMode { used, answer, packet, command, size, result, mode };
-    assert_eq!(read, expected_mode, "{}", told());
+    assert_eq!(read, ReadMode { used, answer, packet, command, size, result, mode }, "{}", told());
 
     let read = lent(false, room, data, |out| calls::read_init_channel_list_mode(bytes, out));
     let ReadPacket { factor, active, lf, inter, main, execution, .. } = all;
