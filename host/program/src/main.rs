@@ -1,7 +1,7 @@
 //! The program `yarrowbell`: what a bench engineer and a teacher use, over the proved library.
 //!
-//! Exit status: 0 done; 1 a difference found by soak or bench, or a frame refused under read --check;
-//! 2 bad input, and nothing done, or a file that could not be written; 3 could not print, or
+//! Exit status: 0 done; 1 a difference found by soak or bench, or a frame or packet refused under
+//! --check; 2 bad input, and nothing done, or a file that could not be written; 3 could not print, or
 //! ./yarrowbell could not build the program, or bench the benchmark. A reader who has gone, as behind
 //! a pipe, is no failure.
 
@@ -21,6 +21,7 @@ mod lesson;
 mod number;
 mod order;
 mod output;
+mod packet;
 mod picture;
 mod play;
 mod profile;
@@ -38,6 +39,7 @@ mod times;
 mod trace;
 mod unit;
 mod words;
+mod wrapping;
 mod write;
 
 use clap::Parser;

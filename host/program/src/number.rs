@@ -47,7 +47,13 @@ pub fn listed(word: &str) -> Result<u8, NotNumber> {
 
 /// The value of a field that has a rule.
 pub fn of<N: FromStr + 'static>(field: Field) -> impl Fn(&str) -> Result<N, NotNumber> + Clone {
-    let rule = field.rule().expect("the field has a rule");
+    ruled(field.rule().expect("the field has a rule"))
+}
+
+/// A value that has this rule.
+pub fn ruled<N: FromStr + 'static>(
+    rule: &'static str,
+) -> impl Fn(&str) -> Result<N, NotNumber> + Clone {
     move |word| whole(word).ok_or(NotNumber::Broken(rule))
 }
 

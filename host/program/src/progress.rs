@@ -17,24 +17,29 @@ pub struct Progress(ProgressBar);
 
 impl Progress {
     pub fn of_calls(calls: u64) -> Progress {
+        Progress::new(calls, "calls")
+    }
+
+    /// For lines on standard output: none if they fill a terminal by themselves, where the bar would
+    /// tear them.
+    pub fn beside_lines(all: u64, of: &'static str) -> Progress {
+        if io::stdout().is_terminal() {
+            Progress(ProgressBar::hidden())
+        } else {
+            Progress::new(all, of)
+        }
+    }
+
+    /// Of so many things, which have this name.
+    fn new(all: u64, of: &'static str) -> Progress {
         let line = move |state: &ProgressState, out: &mut dyn Write| {
-            let done = state.pos().min(calls);
-            let far = Far { done, all: calls, time: state.elapsed() };
+            let done = state.pos().min(all);
+            let far = Far { done, all, of, time: state.elapsed() };
             let columns = Term::stderr().size().1.into();
             out.write_str(&far.line(columns)).expect("indicatif takes all that is written");
         };
         let style = ProgressStyle::with_template("{line}").expect("it has a word in braces");
-        Progress(ProgressBar::new(calls).with_style(style.with_key("line", line)))
-    }
-
-    /// The same, for lines on standard output: none if they fill a terminal by themselves, where
-    /// the bar would tear them.
-    pub fn beside_lines(calls: u64) -> Progress {
-        if io::stdout().is_terminal() {
-            Progress(ProgressBar::hidden())
-        } else {
-            Progress::of_calls(calls)
-        }
+        Progress(ProgressBar::new(all).with_style(style.with_key("line", line)))
     }
 
     /// One call more.
@@ -42,9 +47,9 @@ impl Progress {
         self.0.inc(1);
     }
 
-    /// So many calls in all.
-    pub fn calls(&self, calls: u64) {
-        self.0.set_position(calls);
+    /// So many in all.
+    pub fn done(&self, done: u64) {
+        self.0.set_position(done);
     }
 
     /// Prints, without the bar in between.
@@ -59,10 +64,11 @@ impl Drop for Progress {
     }
 }
 
-/// How many calls are done, of how many, in which time.
+/// How many are done, of how many and of what, in which time.
 struct Far {
     done: u64,
     all: u64,
+    of: &'static str,
     time: Duration,
 }
 
@@ -81,7 +87,7 @@ impl Far {
     /// What can be said, from the most to the least.
     fn words(&self) -> Vec<String> {
         let all = thousands(self.all);
-        let calls = format!("{:>1$}/{all} calls", thousands(self.done), all.len());
+        let count = format!("{:>1$}/{all} {2}", thousands(self.done), all.len(), self.of);
         let percent = format!("{:.0}%", self.part() * 100.0);
         let rate = self.done as f64 / self.time.as_secs_f64();
         let left = (self.all - self.done) as f64 / rate;
@@ -89,10 +95,10 @@ impl Far {
             Ok(left) => {
                 let left = format!("{:#} left", HumanDuration(left));
                 let rate = thousands(rate as u64);
-                let most = format!("{calls}, {rate}/s, {left}");
-                vec![most, format!("{calls}, {left}"), calls, percent]
+                let most = format!("{count}, {rate}/s, {left}");
+                vec![most, format!("{count}, {left}"), count, percent]
             }
-            Err(_) => vec![calls, percent],
+            Err(_) => vec![count, percent],
         }
     }
 
@@ -112,7 +118,7 @@ mod tests {
     use super::{Duration, Far, SHORT};
 
     fn far(done: u64, all: u64, milliseconds: u64) -> Far {
-        Far { done, all, time: Duration::from_millis(milliseconds) }
+        Far { done, all, of: "calls", time: Duration::from_millis(milliseconds) }
     }
 
     #[test]

@@ -47,7 +47,7 @@ impl Soak {
             history::run(seed, met)?;
             pairs::run(seed, met)?;
             let done = met.calls + met.pair_calls;
-            progress.calls(done.min(self.calls));
+            progress.done(done.min(self.calls));
             if done >= self.calls {
                 break;
             }

@@ -1,7 +1,7 @@
 //! The subcommands.
 
 use crate::failure::{Failure, Out};
-use crate::{bench, demo, lesson, read, replay, script, soaking, trace, write};
+use crate::{bench, demo, lesson, packet, read, replay, script, soaking, trace, write};
 use clap::{Parser, Subcommand};
 use std::process::ExitCode;
 
@@ -15,7 +15,7 @@ Each command has an example in its own help, as yarrowbell read --help.
 
 Exit status:
   0  done
-  1  a difference found by soak or bench, or a frame refused under read --check
+  1  a difference found by soak or bench, or a frame or packet refused under --check
   2  bad input, and nothing done, or a file that could not be written
   3  could not print, or ./yarrowbell could not build the program, or bench the benchmark"
 )]
@@ -30,6 +30,7 @@ enum Task {
     Read(read::Read),
     Write(write::Write),
     Trace(trace::Trace),
+    Packet(packet::Packet),
     Replay(replay::Replay),
     Session(script::Script),
     Lesson(lesson::Lesson),
@@ -43,6 +44,7 @@ pub fn run(arguments: Arguments, out: Out) -> Result<ExitCode, Failure> {
         Task::Read(read) => return read.run(out),
         Task::Write(write) => write.run(out)?,
         Task::Trace(trace) => trace.run(out)?,
+        Task::Packet(packet) => return packet.run(out),
         Task::Replay(replay) => replay.run(out)?,
         Task::Session(script) => script.run(out)?,
         Task::Lesson(lesson) => lesson.run(out)?,

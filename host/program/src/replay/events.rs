@@ -95,7 +95,7 @@ pub fn print(
     mut each: impl FnMut(Step) -> Result<(), Failure>,
     out: Out,
 ) -> Result<Vec<Option<Event>>, Failure> {
-    let progress = Progress::beside_lines(session.number_of_calls());
+    let progress = Progress::beside_lines(session.number_of_calls(), "calls");
     let mut events = Events::begin(names, out);
     let ends = play(session, units, &progress, |step| {
         events.step(&step)?;

@@ -44,7 +44,7 @@ pub fn print(
     mut each: impl FnMut(Step) -> Result<(), Failure>,
     out: Out,
 ) -> Result<Vec<Option<Event>>, Failure> {
-    let progress = Progress::beside_lines(session.number_of_calls());
+    let progress = Progress::beside_lines(session.number_of_calls(), "calls");
     let mut sheet = Sheet::begin(out)?;
     let ends = play(session, units, &progress, |step| {
         sheet.step(&step)?;

@@ -4,7 +4,6 @@
 mod table;
 mod told;
 mod totals;
-mod wrapping;
 
 use crate::course::Event;
 use crate::failure::{Failure, Out};

@@ -1,7 +1,7 @@
 //! The story's lines: the time at the left, and a column for each unit.
 
-use super::wrapping::wrapped;
 use crate::words::{time, TIME};
+use crate::wrapping::wrapped;
 
 /// How wide a column is that has others beside it.
 const COLUMN: usize = 42;

@@ -1,10 +1,10 @@
 //! Steps and their events in words.
 
 use super::table::{Cell, Table};
-use super::wrapping::together;
 use crate::course::{Decided, Event, Pulse, What};
 use crate::frame::layout;
 use crate::play::{Done, Step};
+use crate::wrapping::together;
 use crate::{hex, words};
 use yarrowbell::Answer;
 

@@ -3,9 +3,8 @@
 use crate::failure::BadInput;
 use crate::field::Field;
 use std::fmt::Display;
-use yarrowbell::NotWritten;
 
-/// An argument, what it gives, and document 01's rule if that is not good.
+/// An argument, what it gives, and the paper's rule if that is not good.
 pub struct Argument {
     pub name: String,
     pub given: String,
@@ -23,7 +22,7 @@ impl Argument {
     }
 
     /// What is said of it for the library's refusal, if it is at fault.
-    pub fn fault(&self, why: NotWritten) -> Option<BadInput> {
+    pub fn fault(&self, why: impl Display) -> Option<BadInput> {
         let what = format!("{} is not good ({why}): {}", self.given, self.broken?);
         Some(BadInput::argument(&self.name, what))
     }

@@ -1,6 +1,6 @@
 //! `yarrowbell write`
 
-mod argument;
+pub mod argument;
 mod init;
 mod json;
 mod single;

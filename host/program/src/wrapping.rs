@@ -10,6 +10,10 @@ const WITH_NUMBERS: [&str; 5] = [" mA", " µs", " nC", " ms", "reply "];
 
 /// The lines of a text. The first is indented by this, the others by four spaces.
 pub fn wrapped(text: &str, indent: &str, width: usize) -> Vec<String> {
+    // Most have room, and a capture has a million of them.
+    if indent.len() + text.chars().count() <= width {
+        return vec![format!("{indent}{}", text.replace(FIXED, " "))];
+    }
     let options = Options::new(width).initial_indent(indent).subsequent_indent("    ");
     let mut text = text.to_owned();
     for words in WITH_NUMBERS {

@@ -1,0 +1,39 @@
+//! `yarrowbell packet`
+
+mod device;
+mod read;
+mod rehastim2;
+mod write;
+
+use crate::failure::{Failure, Out};
+use clap::{Args, Subcommand};
+use std::process::ExitCode;
+
+/// Read packets of the RehaStim2, or write one
+///
+/// The RehaStim2 speaks ScienceMode2, whose commands stand in packets: between a start byte and a
+/// stop byte, which are stuffed where they stand inside.
+#[derive(Args)]
+#[command(after_help = "\
+Examples:
+  yarrowbell packet read rehastim2 F0 81 49 81 57 00 04 0F
+  yarrowbell packet write rehastim2 watchdog --number 7")]
+pub struct Packet {
+    #[command(subcommand)]
+    task: Task,
+}
+
+#[derive(Subcommand)]
+enum Task {
+    Read(read::Read),
+    Write(write::Write),
+}
+
+impl Packet {
+    pub fn run(self, out: Out) -> Result<ExitCode, Failure> {
+        match self.task {
+            Task::Read(read) => read.run(out),
+            Task::Write(write) => write.run(out).map(|()| ExitCode::SUCCESS),
+        }
+    }
+}

@@ -1,0 +1,66 @@
+//! `yarrowbell packet read`
+
+use super::device::Device;
+use super::rehastim2;
+use crate::bytes::Bytes;
+use crate::failure::{Failure, Out};
+use clap::Args;
+use std::ffi::OsString;
+use std::process::ExitCode;
+
+/// Read the first packet of a capture, or with --all every one: its bytes, its fields, its checksum,
+/// and the answer to it
+///
+/// Prints each byte as it came and unstuffed, with what it is, the value of each field, checksum and
+/// length worked out, and the proved reader's answer. A packet that it refuses is shown as far as its
+/// bytes go, with the place at which it is refused and what would be right there.
+#[derive(Args)]
+#[command(after_help = "\
+Garbage before a packet is passed over. F0 opens a packet unless 81 stands straight before it, and 0F
+ends one likewise; F0 inside an open packet drops that and opens a new one. Places are counted from 0,
+as source 000's tables count.
+
+Bytes in hex may have 0x before them, and spaces, line ends, a comma or a colon between them. In a
+file # begins a comment. A file is taken as the bytes themselves if it is no text: not UTF-8, or with
+a control character other than tab, line feed, form feed and carriage return. A file whose name is
+hex digits is given as ./F0.
+
+Examples, a Watchdog, and two packets with garbage between them:
+  yarrowbell packet read rehastim2 F0 81 49 81 57 00 04 0F
+  yarrowbell packet read rehastim2 F08149815700040F 4142 F08149815700040F --all
+  yarrowbell packet read rehastim2 F08149815700040F --json --check")]
+pub struct Read {
+    /// Whose packets they are
+    #[arg(value_enum)]
+    device: Device,
+
+    /// The bytes in hex; or one file that has them, or - for standard input
+    #[arg(value_name = "HEX", required = true, value_parser = clap::value_parser!(OsString))]
+    words: Vec<OsString>,
+
+    /// Read all packets, one line each, and count them
+    #[arg(long)]
+    all: bool,
+
+    /// Print what is in the packet as JSON, one object in a line; with --all a line for each packet
+    #[arg(long)]
+    json: bool,
+
+    /// Exit with status 1 if a packet is refused: if an answer is not 0
+    #[arg(long)]
+    check: bool,
+}
+
+impl Read {
+    pub fn run(self, out: Out) -> Result<ExitCode, Failure> {
+        let given = Bytes::of_words_or_file(&self.words)?;
+        if given.all.is_empty() && !self.all {
+            return Err(given.fault(None, "no bytes").into());
+        }
+        let good = match (self.device, self.all) {
+            (Device::Rehastim2, false) => rehastim2::read_first(&given.all, self.json, out)?,
+            (Device::Rehastim2, true) => rehastim2::read_all(&given.all, self.json, out)?,
+        };
+        Ok(if self.check && !good { ExitCode::FAILURE } else { ExitCode::SUCCESS })
+    }
+}

@@ -1,0 +1,137 @@
+//! The bytes given for a packet, against its layout. What the library says of them decides; this is
+//! where its words come from, and a test holds the two together.
+
+use super::checksum;
+use super::stuffing::{is_stuffed, KEY, START, STOP, STUFFING};
+
+/// All places are counted from the first of all bytes.
+pub struct Given<'a> {
+    all: &'a [u8],
+    /// From here on a packet is looked for.
+    from: usize,
+    /// The start byte of the first packet that ends, or of the last one if none does.
+    pub start: Option<usize>,
+    pub stop: Option<usize>,
+    /// How many packets before it a new start byte dropped.
+    pub dropped: usize,
+}
+
+/// A byte that is always stuffed, as far as it is there.
+pub struct Always<'a> {
+    pub at: usize,
+    pub bytes: &'a [u8],
+}
+
+/// What stands for one byte before stuffing: the byte itself, or a pair.
+#[derive(Clone, Copy)]
+pub struct Unit<'a> {
+    pub at: usize,
+    pub bytes: &'a [u8],
+    /// None where a pair, or a byte by itself, is one that nothing is stuffed to.
+    pub plain: Option<u8>,
+}
+
+impl<'a> Given<'a> {
+    pub fn new(all: &'a [u8], from: usize) -> Given<'a> {
+        let (mut start, mut dropped, mut before) = (None, 0, 0);
+        for (at, byte) in all.iter().enumerate().skip(from) {
+            match (*byte, before, start) {
+                (START | STOP, STUFFING, _) => (),
+                (START, _, open) => {
+                    dropped += usize::from(open.is_some());
+                    start = Some(at);
+                }
+                (STOP, _, Some(_)) => return Given { all, from, start, stop: Some(at), dropped },
+                _ => (),
+            }
+            before = *byte;
+        }
+        Given { all, from, start, stop: None, dropped }
+    }
+
+    /// The bytes before the packet, or all if there is none.
+    pub fn passed(&self) -> &'a [u8] {
+        &self.all[self.from..self.start.unwrap_or(self.all.len())]
+    }
+
+    /// Where they begin.
+    pub fn from(&self) -> usize {
+        self.from
+    }
+
+    /// The packet from its start to its stop, or as far as it goes.
+    pub fn packet(&self) -> &'a [u8] {
+        let start = self.start.unwrap_or(self.all.len());
+        &self.all[start..self.stop.map_or(self.all.len(), |stop| stop + 1)]
+    }
+
+    /// The bytes behind the packet.
+    pub fn behind(&self) -> &'a [u8] {
+        self.stop.map_or(&[], |stop| &self.all[stop + 1..])
+    }
+
+    /// The place of the stop, or where it would be.
+    pub fn end(&self) -> usize {
+        self.stop.unwrap_or(self.all.len())
+    }
+
+    pub fn checksum(&self) -> Always<'a> {
+        self.always(1)
+    }
+
+    pub fn length(&self) -> Always<'a> {
+        self.always(3)
+    }
+
+    fn always(&self, behind_start: usize) -> Always<'a> {
+        let at = self.place(behind_start);
+        Always { at, bytes: &self.all[at..self.place(behind_start + 2)] }
+    }
+
+    /// Packet number, command and data as they stand: what the checksum and the length are of.
+    pub fn covered(&self) -> &'a [u8] {
+        &self.all[self.place(5)..self.end()]
+    }
+
+    /// The place of a byte so far behind the start, but not behind the end.
+    pub fn place(&self, behind_start: usize) -> usize {
+        let start = self.start.unwrap_or(self.all.len());
+        (start + behind_start).min(self.end())
+    }
+
+    /// What the checksum is to be.
+    pub fn right_checksum(&self) -> u8 {
+        checksum::of(self.covered())
+    }
+
+    /// What stands for each byte of packet number, command and data.
+    pub fn units(&self) -> Vec<Unit<'a>> {
+        let (mut units, mut rest, mut at) = (Vec::new(), self.covered(), self.place(5));
+        while let [first, behind @ ..] = rest {
+            let (size, plain) = match (*first, behind.first()) {
+                (STUFFING, Some(second)) => {
+                    (2, Some(second ^ KEY).filter(|byte| is_stuffed(*byte)))
+                }
+                (byte, _) => (1, Some(byte).filter(|byte| !is_stuffed(*byte))),
+            };
+            units.push(Unit { at, bytes: &rest[..size], plain });
+            (rest, at) = (&rest[size..], at + size);
+        }
+        units
+    }
+}
+
+impl Always<'_> {
+    /// The byte before stuffing, if it is there and stuffed.
+    pub fn value(&self) -> Option<u8> {
+        match self.bytes {
+            [STUFFING, byte] => Some(byte ^ KEY),
+            _ => None,
+        }
+    }
+}
+
+/// The bytes before stuffing, up to the first that there is none for.
+pub fn plain(units: &[Unit]) -> Vec<u8> {
+    units.iter().map_while(|unit| unit.plain).collect()
+}

@@ -1,0 +1,29 @@
+//! `yarrowbell packet write`
+
+use super::rehastim2;
+use crate::failure::{Failure, Out};
+use clap::{Args, Subcommand};
+
+/// Write one packet and print its bytes in hex
+#[derive(Args)]
+#[command(after_help = "\
+Example:
+  yarrowbell packet write rehastim2 watchdog --number 7")]
+pub struct Write {
+    #[command(subcommand)]
+    device: Of,
+}
+
+/// The devices, each with its commands.
+#[derive(Subcommand)]
+enum Of {
+    Rehastim2(rehastim2::Write),
+}
+
+impl Write {
+    pub fn run(self, out: Out) -> Result<(), Failure> {
+        match self.device {
+            Of::Rehastim2(write) => write.run(out),
+        }
+    }
+}
