@@ -50,8 +50,8 @@ impl Source {
     }
 
     /// Text is UTF-8 without control characters other than tab, line feed, form feed and carriage
-    /// return. All else is taken as the bytes themselves: a readout begins with 01, 02 or 03, and a
-    /// frame is a high byte with low ones behind it, which no text does or has.
+    /// return. All else is taken as the bytes themselves: a readout begins with 01, 02 or 03, a frame
+    /// is a high byte with low ones behind it, and a packet ends with 0F, which no text does or has.
     pub fn content(&self) -> Result<Content, BadInput> {
         let text = match utf_8(self.bytes()?) {
             Ok(text) => text,

@@ -219,6 +219,18 @@ fn readouts_to_trace() {
     });
 }
 
+/// Packets, which are good or not by what is spoilt in them.
+#[test]
+fn packets_to_read() {
+    let folder = Folder::new("fuzz_packets_to_read");
+    let lines = ["packet read rehastim2 -", "packet read rehastim2 - --all"];
+    fuzzed(&folder, 0, &lines, |rng| {
+        let data: Vec<u8> = (0..rng.gen_range(0..9)).map(|_| rng.gen()).collect();
+        let packet = independent::rehastim2::compose(rng.gen(), rng.gen_range(0..40), &data);
+        spelt(rng, &packet)
+    });
+}
+
 /// Whatever clock stands in a session, it is played for a moment only.
 #[test]
 fn sessions_to_replay() {
@@ -243,6 +255,8 @@ fn without_end() {
         "read -",
         "trace -",
         "trace - --start 3 --used 14",
+        "packet read rehastim2 -",
+        "packet read rehastim2 - --all --json",
         "replay - --until 5",
         "replay s --profile -",
         "session -",

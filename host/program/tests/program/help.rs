@@ -4,7 +4,9 @@ use crate::run;
 /// Exit status 0 for help that was asked for, 2 for a line that says too little.
 #[test]
 fn help_is_given() {
-    for (words, status) in [("--help", 0), ("help", 0), ("", 2), ("write", 2)] {
+    for (words, status) in
+        [("--help", 0), ("help", 0), ("", 2), ("write", 2), ("packet", 2), ("packet write", 2)]
+    {
         let ran = run::line(words);
         assert_eq!(ran.status, status, "{words}");
         let (help, other) = if status == 0 { (ran.out, ran.err) } else { (ran.err, ran.out) };
@@ -44,6 +46,18 @@ fn examples_work() {
         "write update",
         "write stop",
         "trace",
+        "packet",
+        "packet read",
+        "packet write",
+        "packet write rehastim2",
+        "packet write rehastim2 init",
+        "packet write rehastim2 init-ack",
+        "packet write rehastim2 unknown-command",
+        "packet write rehastim2 watchdog",
+        "packet write rehastim2 get-stimulation-mode",
+        "packet write rehastim2 get-stimulation-mode-ack",
+        "packet write rehastim2 init-channel-list-mode",
+        "packet write rehastim2 init-channel-list-mode-ack",
         "replay",
         "session",
         "lesson",
@@ -55,8 +69,10 @@ fn examples_work() {
     ] {
         let help = run::line(&format!("{words} --help"));
         assert_eq!((help.status, help.err.as_str()), (0, ""), "{words}");
+        // A line that ends in \ goes on in the next, as in a shell.
+        let out = help.out.replace("\\\n", "");
         let examples: Vec<&str> =
-            help.out.lines().filter_map(|line| line.strip_prefix("  yarrowbell ")).collect();
+            out.lines().filter_map(|line| line.strip_prefix("  yarrowbell ")).collect();
         assert!(!examples.is_empty(), "{words}");
         for example in examples {
             assert!(example.starts_with(words), "{example}");

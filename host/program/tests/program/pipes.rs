@@ -22,7 +22,14 @@ fn unread(folder: &Folder, line: &str) {
 #[test]
 fn closed_before() {
     let folder = Folder::new("closed_before");
-    for line in ["read C0", "write stop", "trace 030000000001"] {
+    for line in [
+        "read C0",
+        "write stop",
+        "trace 030000000001",
+        "packet read rehastim2 F0",
+        "packet read rehastim2 F0 --all",
+        "packet write rehastim2 watchdog",
+    ] {
         unread(&folder, line);
     }
 }
