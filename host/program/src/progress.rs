@@ -167,6 +167,12 @@ mod tests {
         }
     }
 
+    #[test]
+    fn bytes() {
+        let line = Far { of: "bytes", ..far(1, 2, 1_000) }.line(20);
+        assert_eq!(line, "█████░░░░░ 1/2 bytes");
+    }
+
     /// The longest session leaves room for a bar in 40 columns.
     #[test]
     fn the_longest_session() {

@@ -38,7 +38,7 @@ pub struct Read {
     #[arg(value_name = "HEX", required = true, value_parser = clap::value_parser!(OsString))]
     words: Vec<OsString>,
 
-    /// Read all packets, one line each, and count them
+    /// Read all packets, a row each, and count them
     #[arg(long)]
     all: bool,
 

@@ -108,16 +108,15 @@ fn intervals() {
             bytes,
         );
     }
-    let least = "init-channel-list-mode --active-channels none --inter-pulse-interval 1.5ms \
-                 --main-stimulation-interval 1ms";
-    prints(
-        &format!("packet write rehastim2 {least}"),
-        &[&run::printed(&format!(
-            "packet write rehastim2 {}",
-            least.replace("1.5ms", "0").replace("1ms", "0")
-        ))
-        .trim_end()],
-    );
+    for (inter, main) in [("0", "0"), ("1.5ms", "1ms")] {
+        writes(
+            &format!(
+                "init-channel-list-mode --active-channels none --inter-pulse-interval {inter} \
+                 --main-stimulation-interval {main}"
+            ),
+            "F0 81 90 81 5C 00 1E 00 00 00 00 00 00 00 0F",
+        );
+    }
 }
 
 /// Clap's first line for a value that an argument does not take.

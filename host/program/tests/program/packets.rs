@@ -165,6 +165,8 @@ fn long_ones_are_cut() {
     assert!(out.lines().count() < 150, "{out}");
     assert!(out.starts_with("Packet, not finished: 50,001 bytes\n"));
     assert!(out.contains("\n  ..  49,871 bytes more\n"), "{out}");
+    let out = printed(&format!("packet read rehastim2 F0 8155 8155 {} 0F", "11".repeat(50_000)));
+    assert!(out.lines().count() < 150 && out.lines().all(|line| line.len() < 150), "{out}");
     let out = printed(&format!("packet read rehastim2 {}", "11".repeat(50_000)));
     let garbage = format!("   0  garbage: {}.. (50,000 bytes)\n", "11 ".repeat(16));
     assert!(out.contains(&garbage), "{out}");

@@ -24,7 +24,9 @@ pub fn of(reading: &Reading) -> Vec<String> {
 fn worked_out(given: &Given) -> Vec<String> {
     let (units, covered) = (given.units(), given.covered());
     let mut lines = Vec::new();
-    if units.iter().all(|unit| unit.plain.is_some()) && !units.is_empty() {
+    let unstuffed: usize =
+        units.iter().map_while(|unit| unit.plain.and(Some(unit.bytes.len()))).sum();
+    if unstuffed == covered.len() && !units.is_empty() {
         lines.push(format!("unstuffed {}", hex::spelt(&plain(&units))));
     }
     let over = match covered {

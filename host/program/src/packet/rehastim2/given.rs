@@ -4,6 +4,9 @@
 use super::checksum;
 use super::stuffing::{is_stuffed, KEY, START, STOP, STUFFING};
 
+/// As many bytes as a length can tell: what a longer packet has in it nobody asks.
+const MOST_COVERED: usize = u8::MAX as usize;
+
 /// All places are counted from the first of all bytes.
 pub struct Given<'a> {
     all: &'a [u8],
@@ -104,9 +107,11 @@ impl<'a> Given<'a> {
         checksum::of(self.covered())
     }
 
-    /// What stands for each byte of packet number, command and data.
+    /// What stands for each byte of packet number, command and data, as many as a length can tell.
     pub fn units(&self) -> Vec<Unit<'a>> {
-        let (mut units, mut rest, mut at) = (Vec::new(), self.covered(), self.place(5));
+        let covered = self.covered();
+        let (mut units, mut at) = (Vec::new(), self.place(5));
+        let mut rest = &covered[..covered.len().min(MOST_COVERED)];
         while let [first, behind @ ..] = rest {
             let (size, plain) = match (*first, behind.first()) {
                 (STUFFING, Some(second)) => {
