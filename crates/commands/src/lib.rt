@@ -54,6 +54,13 @@ pub const NO_SINGLE: Single = Single {
     current: 0,
 };
 
+// What a writer reports, of frames or of packets: its answer and the bytes written.
+#[repr(C)]
+pub struct Wrote {
+    pub answer: u8,
+    pub used: u8,
+}
+
 // ---- good values
 
 fn is_within(low: u16, x: u16, high: u16) -> bool

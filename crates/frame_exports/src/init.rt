@@ -1,6 +1,6 @@
 // An Init, read and written.
 use commands::Init;
-use writers::Wrote;
+use commands::Wrote;
 ghost use mathlib.Core.Path.{_≡_};
 ghost use Rattle.commands.specs.Commands.{Command.init};
 ghost use Rattle.frames.specs.Reader.{readFrame};

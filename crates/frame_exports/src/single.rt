@@ -1,6 +1,6 @@
 // A Single, read and written.
 use commands::Single;
-use writers::Wrote;
+use commands::Wrote;
 ghost use mathlib.Core.Path.{_≡_};
 ghost use Rattle.commands.specs.Commands.{Command.single};
 ghost use Rattle.frames.specs.Reader.{readFrame};

@@ -1,5 +1,5 @@
 // A Stop, read and written.
-use writers::Wrote;
+use commands::Wrote;
 ghost use mathlib.Core.Path.{_≡_};
 ghost use Rattle.commands.specs.Commands.{Command.stop};
 ghost use Rattle.frames.specs.Reader.{readFrame};

@@ -1,6 +1,6 @@
 // An Update, read and written.
 use commands::Setting;
-use writers::Wrote;
+use commands::Wrote;
 ghost use mathlib.Core.Path.{_≡_};
 ghost use Rattle.commands.specs.Commands.{Command.update};
 ghost use Rattle.frames.specs.Reader.{readFrame};

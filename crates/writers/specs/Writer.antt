@@ -4,9 +4,9 @@ use mathlib.Core.Bool.{cond, not}
 use mathlib.Core.List.{List, [], _∷_, _++_}
 use lib.Dec.{ltb, eqb}
 use lib.ListN.{length, drop}
+use Rattle.commands.specs.declared.Wrote.{Wrote}
 use Rattle.commands.specs.Answers.{_when_, firstOf}
 use Rattle.commands.specs.Commands.{Command, good}
-use Rattle.writers.specs.declared.Wrote.{Wrote}
 use Rattle.frames.specs.Bytes.{frameSize, frame}
 
 -- 4, then 16

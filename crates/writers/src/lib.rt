@@ -4,19 +4,13 @@ mod storing;
 use commands::Init;
 use commands::Setting;
 use commands::Single;
+use commands::Wrote;
 use commands::answers;
 use commands::idents;
 use commands::sizes;
 ghost use mathlib.Core.Path.{_≡_};
 ghost use Rattle.commands.specs.Commands.{Command.init, Command.update, Command.stop, Command.single};
 ghost use Rattle.writers.specs.Writer.{wrote, written};
-
-// What a writer reports: its answer and the bytes written.
-#[repr(C)]
-pub struct Wrote {
-    pub answer: u8,
-    pub used: u8,
-}
 
 pub fn write_init(v: Init, out: &mut [u8]) -> Wrote
     ensures { λ r. ⌜ (r ≡ wrote (init v) (now (out .entry))) × (now (out .exit) ≡ written (init v) (now (out .entry))) ⌝ }

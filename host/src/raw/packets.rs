@@ -99,15 +99,15 @@ pub struct ReadResult {
     /// How many bytes were used, as [`ReadPacket`] has it.
     pub used: usize,
     /// Document 02's number: 0, or 1, 3, 4 or 16 if no packet was read.
-    pub answer: u8,
+    pub answer: u16,
     /// Packet number; 0 if no packet was read.
-    pub packet: u8,
+    pub packet: u16,
     /// The command's number, whichever it is; 0 if no packet was read.
-    pub command: u8,
+    pub command: u16,
     /// How many bytes of data were put to the output's start, 0 to 60; 0 if no packet was read.
     pub size: u8,
     /// Result, 0 to -8; 0 if another command was read, or none.
-    pub result: i32,
+    pub result: i8,
 }
 
 /// What the reader reports, with the values of a GetStimulationModeAck.
@@ -121,13 +121,13 @@ pub struct ReadMode {
     /// Packet number; 0 if no packet was read.
     pub packet: u8,
     /// The command's number, whichever it is; 0 if no packet was read.
-    pub command: u8,
+    pub command: u16,
     /// How many bytes of data were put to the output's start, 0 to 60; 0 if no packet was read.
-    pub size: u8,
+    pub size: u16,
     /// Result, 0 to -8; 0 if another command was read, or none.
-    pub result: i16,
+    pub result: i8,
     /// Stimulation mode, 0 to 2; 0 if the result is not 0, and if another command was read, or none.
-    pub mode: u16,
+    pub mode: u8,
 }
 
 /// What the reader reports, with the values of an InitChannelListMode, which are 0 if another command

@@ -48,9 +48,16 @@ pub fn read(bytes: &[u8], room: usize) -> Reading {
     let version = all.version.into();
     assert_eq!(read, ReadVersion { used, answer, packet, command, size, version }, "{}", told());
 
+    let with_result = |result| ReadResult {
+        used,
+        answer: answer.into(),
+        packet: packet.into(),
+        command: command.into(),
+        size,
+        result,
+    };
     let read = lent(true, room, data, |out| calls::read_init_ack(bytes, out));
-    let result = of(2, all.result).into();
-    assert_eq!(read, ReadResult { used, answer, packet, command, size, result }, "{}", told());
+    assert_eq!(read, with_result(of(2, all.result)), "{}", told());
 
     let read = lent(false, room, data, |out| calls::read_unknown_command(bytes, out));
     let echo = all.echo.into();
@@ -69,8 +76,16 @@ pub fn read(bytes: &[u8], room: usize) -> Reading {
     assert_eq!(read, empty, "{}", told());
 
     let read = lent(true, room, data, |out| calls::read_get_stimulation_mode_ack(bytes, out));
-    let (result, mode) = (of(11, all.result).into(), all.mode.into());
-    assert_eq!(read, ReadMode { used, answer, packet, command, size, result, mode }, "{}", told());
+    let mode = ReadMode {
+        used,
+        answer,
+        packet,
+        command: command.into(),
+        size: size.into(),
+        result: of(11, all.result),
+        mode: all.mode,
+    };
+    assert_eq!(read, mode, "{}", told());
 
     let read = lent(false, room, data, |out| calls::read_init_channel_list_mode(bytes, out));
     let ReadPacket { factor, active, lf, inter, main, execution, .. } = all;
@@ -91,8 +106,7 @@ pub fn read(bytes: &[u8], room: usize) -> Reading {
     assert_eq!(read, list, "{}", told());
 
     let read = lent(true, room, data, |out| calls::read_init_channel_list_mode_ack(bytes, out));
-    let result = of(31, all.result).into();
-    assert_eq!(read, ReadResult { used, answer, packet, command, size, result }, "{}", told());
+    assert_eq!(read, with_result(of(31, all.result)), "{}", told());
 
     let wrapped = match expected.command {
         Some(command) => Ok(rehastim2::Packet {

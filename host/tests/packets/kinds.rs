@@ -30,18 +30,29 @@ fn values_of_its_own_kind_alone() {
         let version = own(1, 1) as u32;
         let read = read_init(bytes, out);
         assert_eq!(read, ReadVersion { used, answer, packet, command, size, version });
-        let result = own(2, -5).into();
-        let read = read_init_ack(bytes, out);
-        assert_eq!(read, ReadResult { used, answer, packet, command, size, result });
+        let with_result = |result| ReadResult {
+            used,
+            answer: 0,
+            packet: packet.into(),
+            command: command.into(),
+            size,
+            result,
+        };
+        assert_eq!(read_init_ack(bytes, out), with_result(own(2, -5)));
         let echo = if command == 3 { 0xF0 } else { 0 };
         let read = read_unknown_command(bytes, out);
         assert_eq!(read, ReadEcho { used, answer, packet, command, size, echo });
-        let (result, mode) = (0, own(11, 2) as u16);
-        let read = read_get_stimulation_mode_ack(bytes, out);
-        assert_eq!(read, ReadMode { used, answer, packet, command, size, result, mode });
-        let result = own(31, -2).into();
-        let read = read_init_channel_list_mode_ack(bytes, out);
-        assert_eq!(read, ReadResult { used, answer, packet, command, size, result });
+        let mode = ReadMode {
+            used,
+            answer,
+            packet,
+            command: command.into(),
+            size: size.into(),
+            result: 0,
+            mode: own(11, 2) as u8,
+        };
+        assert_eq!(read_get_stimulation_mode_ack(bytes, out), mode);
+        assert_eq!(read_init_channel_list_mode_ack(bytes, out), with_result(own(31, -2)));
 
         let [packet, command, size] = [packet, command, size].map(u16::from);
         let empty = ReadEmpty { used, answer: 0, packet, command, size };
@@ -112,12 +123,12 @@ fn zeros_on_a_refusal() {
         let out = &mut [0xAA; 60][..room];
         let empty = ReadEmpty { used, answer, ..ReadEmpty::default() };
         assert_eq!([read_watchdog(bytes, out), read_get_stimulation_mode(bytes, out)], [empty; 2]);
-        let answer = answer as u8;
-        assert_eq!(read(bytes, out), ReadPacket { used, answer, ..Default::default() });
-        assert_eq!(read_init(bytes, out), ReadVersion { used, answer, ..Default::default() });
         let result = ReadResult { used, answer, ..Default::default() };
         assert_eq!(read_init_ack(bytes, out), result);
         assert_eq!(read_init_channel_list_mode_ack(bytes, out), result);
+        let answer = answer as u8;
+        assert_eq!(read(bytes, out), ReadPacket { used, answer, ..Default::default() });
+        assert_eq!(read_init(bytes, out), ReadVersion { used, answer, ..Default::default() });
         let echo = ReadEcho { used, answer, ..Default::default() };
         assert_eq!(read_unknown_command(bytes, out), echo);
         let mode = ReadMode { used, answer, ..Default::default() };

@@ -1,0 +1,84 @@
+// GetStimulationMode and its acknowledgement, read and written.
+use crate::packet;
+use crate::packet::ReadEmpty;
+use crate::result;
+use commands::Wrote;
+use commands2::Command;
+use commands2::numbers;
+ghost use mathlib.Core.Path.{_≡_};
+ghost use lib.ListN.{length};
+ghost use Rattle.commands2.specs.declared.Command.the-variants.{GetStimulationMode, GetStimulationModeAck};
+ghost use Rattle.reader2.specs.Reader.{readPacket, dataPut};
+ghost use Rattle.writer2.specs.Writer.{wrote, written};
+ghost use Rattle.packet_exports.specs.Reports.{asPacket, asEmpty, asMode};
+
+#[repr(C)]
+pub struct ReadMode {
+    pub used: usize,
+    pub answer: u8,
+    pub packet: u8,
+    pub command: u16,
+    pub size: u16,
+    pub result: i8,
+    pub mode: u8,
+}
+
+#[no_mangle]
+pub extern "C" fn yarrowbell_rehastim2_read_get_stimulation_mode(
+    s: &[u8],
+    out: &mut [u8],
+) -> ReadEmpty
+    ensures { λ r. ⌜ (r ≡ asEmpty (asPacket (readPacket (now (s .entry)) (length (now (out .entry)))))) × (now (out .exit) ≡ dataPut (now (s .entry)) (now (out .entry))) ⌝ }
+{
+    let p = packet::yarrowbell_rehastim2_read(s, out);
+    ReadEmpty {
+        used: p.used,
+        answer: p.answer as u16,
+        packet: p.packet as u16,
+        command: p.command as u16,
+        size: p.size as u16,
+    }
+}
+
+#[no_mangle]
+pub extern "C" fn yarrowbell_rehastim2_write_get_stimulation_mode(
+    packet: u8,
+    out: &mut [u8],
+) -> Wrote
+    ensures { λ r. ⌜ (r ≡ wrote packet GetStimulationMode (now (out .entry))) × (now (out .exit) ≡ written packet GetStimulationMode (now (out .entry))) ⌝ }
+{
+    let c = Command::GetStimulationMode;
+    writer2::write_packet(packet, c, out)
+}
+
+#[no_mangle]
+pub extern "C" fn yarrowbell_rehastim2_read_get_stimulation_mode_ack(
+    s: &[u8],
+    out: &mut [u8],
+) -> ReadMode
+    ensures { λ r. ⌜ (r ≡ asMode (asPacket (readPacket (now (s .entry)) (length (now (out .entry)))))) × (now (out .exit) ≡ dataPut (now (s .entry)) (now (out .entry))) ⌝ }
+{
+    let p = packet::yarrowbell_rehastim2_read(s, out);
+    ReadMode {
+        used: p.used,
+        answer: p.answer,
+        packet: p.packet,
+        command: p.command as u16,
+        size: p.size as u16,
+        result: result::result_for(numbers::GET_STIMULATION_MODE_ACK, p),
+        mode: p.mode,
+    }
+}
+
+#[no_mangle]
+pub extern "C" fn yarrowbell_rehastim2_write_get_stimulation_mode_ack(
+    packet: u8,
+    result: i8,
+    mode: u8,
+    out: &mut [u8],
+) -> Wrote
+    ensures { λ r. ⌜ (r ≡ wrote packet (GetStimulationModeAck result mode) (now (out .entry))) × (now (out .exit) ≡ written packet (GetStimulationModeAck result mode) (now (out .entry))) ⌝ }
+{
+    let c = Command::GetStimulationModeAck { result, mode };
+    writer2::write_packet(packet, c, out)
+}

@@ -1,0 +1,4 @@
+pub mod Header
+pub mod FirstBytes
+pub mod Covered
+pub mod Tests

@@ -1,0 +1,12 @@
+-- `reader2::size_good` meets its contract. Assumes nothing.
+use mathlib.Core.Path.{refl}
+use Rattle.reader2.specs.Reader.{sizeGood}
+use Rattle.reader2.proofs.size_good.Statement.{statement}
+use Rattle.reader2.proofs.size_good.Tie as tie
+
+returns : tie.Need-returns
+unfolding sizeGood
+returns c = refl
+
+pub size-good-spec : {M : Type 1} → statement M
+size-good-spec = tie.close (tie.spec returns)

@@ -1,0 +1,122 @@
+-- What the writer answers and leaves, by the bytes that were written. Assumes nothing.
+use mathlib.Core.Path.{_≡_, refl, sym, ap, ap₂, _∙_}
+use mathlib.Core.Bool.{Bool, true, false, cond, not}
+use mathlib.Core.List.{List, [], _∷_, _++_}
+use Prim.Native.Nat.{ℕ, zero, suc, _+_, _≤_, _<_}
+use native.Mathlib.Omega.{arith}
+use lib.Dec.{leb, ltb, eqb}
+use lib.ListN.{length, take, drop, getD, replicate, length-append, length-take}
+use borrow.Author.Tests.{leb-true, leb-false, le-ltb, lt-ltb}
+use Rattle.stuffing.specs.Stuffing.{stuffedByte, stuffed}
+use Rattle.stuffing.proofs.Laws.{size-le}
+use Rattle.framing.specs.Packet.{packetOf, sizeWritten, writtenTo}
+use Rattle.framing.proofs.Writing.{length-packet}
+use Rattle.commands2.specs.declared.Command.{Command}
+use Rattle.commands2.specs.declared.Data.{Data}
+use Rattle.commands2.specs.ByValue.{byValue, dataByValue}
+use Rattle.commands2.specs.Commands.{numberOf, dataOf, good}
+use Rattle.commands2.proofs.DataBytes.{length-data-le}
+use Rattle.commands.specs.declared.Wrote.{Wrote}
+use Rattle.writer2.specs.Writer.{headerOf, framed, contentOf, packetBytes, wrote, written}
+
+length-stuffed-le : (l : List ℕ) → length (stuffed l) ≤ length l + length l
+unfolding stuffed
+length-stuffed-le [] = omega arith
+length-stuffed-le (b ∷ l) = rw length-append (omega (arith, size-le b _ refl, length-stuffed-le l))
+
+pub length-fits : (content : List ℕ) → length content ≤ 62 → length (stuffed content) < 256
+length-fits content h = omega (arith, length-stuffed-le content)
+
+-- seven bytes by their places
+pub by-places : (d : List ℕ) → length d ≡ 7 → getD d 0 0 ∷ getD d 1 0 ∷ getD d 2 0 ∷ getD d 3 0 ∷ getD d 4 0 ∷ getD d 5 0 ∷ getD d 6 0 ∷ [] ≡ d
+by-places (a ∷ b ∷ c ∷ d ∷ e ∷ f ∷ g ∷ []) h = refl
+by-places [] h = absurd (omega arith)
+by-places (a ∷ []) h = absurd (omega arith)
+by-places (a ∷ b ∷ []) h = absurd (omega arith)
+by-places (a ∷ b ∷ c ∷ []) h = absurd (omega arith)
+by-places (a ∷ b ∷ c ∷ d ∷ []) h = absurd (omega arith)
+by-places (a ∷ b ∷ c ∷ d ∷ e ∷ []) h = absurd (omega arith)
+by-places (a ∷ b ∷ c ∷ d ∷ e ∷ f ∷ []) h = absurd (omega arith)
+by-places (a ∷ b ∷ c ∷ d ∷ e ∷ f ∷ g ∷ x ∷ l) h = absurd (omega arith)
+
+front : (d z : List ℕ) (k : ℕ) → length d ≤ k → take (length d) (take k (d ++ z)) ≡ d
+front [] z k h = refl
+front (x ∷ d) z zero h = absurd (omega arith)
+front (x ∷ d) z (suc k) h = ap (λ (l : List ℕ). x ∷ l) (front d z k (omega arith))
+
+module _ (r : Data) (c : Command) (e : r ≡ dataByValue c) where
+  pub data-size : r .size ≡ length (dataOf c)
+  unfolding byValue
+  data-size = ap (λ (d : Data). d .size) e
+
+  pub data-bytes : r .bytes ≡ take 7 (dataOf c ++ replicate 7 0)
+  unfolding byValue
+  data-bytes = ap (λ (d : Data). d .bytes) e
+
+-- a command's content is the front of its nine bytes by value
+pub content-front : (packet : ℕ) (c : Command) → take (length (dataOf c) + 2) (packet ∷ numberOf c ∷ take 7 (dataOf c ++ replicate 7 0)) ≡ contentOf packet c
+content-front packet c =
+    let n : length (dataOf c) + 2 ≡ suc (suc (length (dataOf c))) = omega arith in
+    rw n (ap (λ (l : List ℕ). packet ∷ numberOf c ∷ l) (front (dataOf c) (replicate 7 0) 7 (length-data-le c)))
+
+-- nine bytes by value that hold it
+module _ (packet number : ℕ) (c : Command) (m : number ≡ numberOf c) (r : Data) (e : r ≡ dataByValue c) (nine : List ℕ) (f : nine ≡ packet ∷ number ∷ r .bytes) where
+  pub content-is : take (r .size + 2) nine ≡ contentOf packet c
+  content-is =
+      ap₂ (λ (n : ℕ) (l : List ℕ). take (n + 2) l) (data-size r c e) (f ∙ ap₂ (λ (n : ℕ) (l : List ℕ). packet ∷ n ∷ l) m (data-bytes r c e))
+      ∙ content-front packet c
+
+  pub content-within : r .size + 2 ≤ length nine
+  content-within =
+      let k : length (r .bytes) ≡ 7 = ap length (data-bytes r c e) ∙ simp (length-take, length-append) (omega arith) in
+      omega (arith, ap length f, k, data-size r c e, length-data-le c)
+
+module _ (packet : ℕ) (c : Command) where
+  -- at most 1 + 4 + 18 + 1 bytes
+  pub packet-small : length (packetBytes packet c) < 256
+  unfolding framed headerOf
+  packet-small =
+      omega (arith, length-packet (headerOf (contentOf packet c)) (contentOf packet c), length-stuffed-le (contentOf packet c), length-data-le c)
+
+  packet-some : 0 < length (packetBytes packet c)
+  unfolding framed headerOf
+  packet-some = omega (arith, length-packet (headerOf (contentOf packet c)) (contentOf packet c))
+
+  module _ (out : List ℕ) where
+    pub not-good : good c ≡ false → (record { answer = 4; used = 0 } ≡ wrote packet c out) × (out ≡ written packet c out)
+    unfolding wrote written
+    not-good e = (rw e, rw e)
+
+    module _ (e : good c ≡ true) where
+      pub too-short : sizeWritten out (headerOf (contentOf packet c)) (contentOf packet c) ≡ 0
+          → (record { answer = 16; used = 0 } ≡ wrote packet c out)
+          × (writtenTo out (headerOf (contentOf packet c)) (contentOf packet c) ≡ written packet c out)
+      unfolding sizeWritten writtenTo wrote written framed
+      too-short z = by (leb (length (packetBytes packet c)) (length out)) refl z
+        where
+          by : (t : Bool) → leb (length (packetBytes packet c)) (length out) ≡ t → cond t (length (packetBytes packet c)) 0 ≡ 0
+              → (record { answer = 16; used = 0 } ≡ wrote packet c out)
+              × (cond t (packetBytes packet c ++ drop (length (packetBytes packet c)) out) out ≡ written packet c out)
+          by true p z = absurd (omega (arith, packet-some))
+          by false p z = let q = lt-ltb (length out) (length (packetBytes packet c)) (leb-false _ _ p) in (rw (e, q), rw (e, q))
+
+      pub fits : (sizeWritten out (headerOf (contentOf packet c)) (contentOf packet c) ≡ 0 → ⊥)
+          → (record { answer = 0; used = sizeWritten out (headerOf (contentOf packet c)) (contentOf packet c) } ≡ wrote packet c out)
+          × (writtenTo out (headerOf (contentOf packet c)) (contentOf packet c) ≡ written packet c out)
+      unfolding sizeWritten writtenTo wrote written framed
+      fits z = by (leb (length (packetBytes packet c)) (length out)) refl z
+        where
+          by : (t : Bool) → leb (length (packetBytes packet c)) (length out) ≡ t → (cond t (length (packetBytes packet c)) 0 ≡ 0 → ⊥)
+              → (record { answer = 0; used = cond t (length (packetBytes packet c)) 0 } ≡ wrote packet c out)
+              × (cond t (packetBytes packet c ++ drop (length (packetBytes packet c)) out) out ≡ written packet c out)
+          by true p z = let q = le-ltb (length out) (length (packetBytes packet c)) (leb-true _ _ p) in (rw (e, q), rw (e, q))
+          by false p z = absurd (z refl)
+
+    -- the bytes written fit one byte
+    pub size-small : sizeWritten out (headerOf (contentOf packet c)) (contentOf packet c) < 256
+    unfolding sizeWritten framed
+    size-small = by (leb (length (packetBytes packet c)) (length out))
+      where
+        by : (t : Bool) → cond t (length (packetBytes packet c)) 0 < 256
+        by true = packet-small
+        by false = omega arith

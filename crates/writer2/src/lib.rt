@@ -1,0 +1,90 @@
+// The writer of packets of ScienceMode2 (request 12; source 000, section 2.2).
+use commands::Wrote;
+use commands::answers;
+use commands2::Command;
+use stuffing::KEY;
+use stuffing::STUFFING;
+ghost use mathlib.Core.Path.{_≡_};
+ghost use mathlib.Core.List.{_∷_};
+ghost use Prim.Native.Nat.{_≤_};
+ghost use lib.ListN.{length};
+ghost use Rattle.crc.specs.Crc.{crc, crc8};
+ghost use Rattle.stuffing.specs.Stuffing.{stuffedByte, stuffed};
+ghost use Rattle.framing.specs.Packet.{sizeWritten, writtenTo};
+ghost use Rattle.writer2.specs.Writer.{headerOf, contentOf, wrote, written};
+
+// The remainder after one byte more, stuffed if it must be.
+fn step_stuffed(r: u8, b: u8) -> u8
+    ensures { λ q. ⌜ q ≡ crc 7 7 r (stuffedByte b) ⌝ }
+{
+    if stuffing::is_special(b) {
+        return crc::step8(crc::step8(r, STUFFING), b ^ KEY);
+    }
+    crc::step8(r, b)
+}
+
+// The checksum over these bytes, stuffed.
+fn check_stuffed(c: &[u8]) -> u8
+    ensures { λ r. ⌜ r ≡ crc8 (stuffed (now (c .entry))) ⌝ }
+{
+    let mut r = 0;
+    let mut i = 0;
+    while i < c.len() {
+        r = step_stuffed(r, c[i]);
+        i += 1;
+    }
+    r
+}
+
+// Writes the packet of a content that is short enough for its length to have one byte: how many bytes it has, 0 where out is too short.
+fn write_content(content: &[u8], out: &mut [u8]) -> usize
+    requires { ⌜ length (now content) ≤ 62 ⌝ }
+    ensures { λ r. ⌜ (r ≡ sizeWritten (now (out .entry)) (headerOf (now (content .entry))) (now (content .entry))) × (now (out .exit) ≡ writtenTo (now (out .entry)) (headerOf (now (content .entry))) (now (content .entry))) ⌝ }
+{
+    let header = [
+        check_stuffed(content),
+        stuffing::stuffed_size(content) as u8,
+    ];
+    framing::write(out, &header, content)
+}
+
+// What a command's packet holds, by value: packet number, command, data.
+fn content_of(packet: u8, number: u8, d: [u8; 7]) -> [u8; 9]
+    ensures { λ r. ⌜ r ≡ packet ∷ number ∷ d ⌝ }
+{
+    [packet, number, d[0], d[1], d[2], d[3], d[4], d[5], d[6]]
+}
+
+// The packet of a good command: how many bytes it has, 0 where out is too short.
+fn write_good(packet: u8, c: Command, out: &mut [u8]) -> usize
+    ensures { λ r. ⌜ (r ≡ sizeWritten (now (out .entry)) (headerOf (contentOf packet c)) (contentOf packet c)) × (now (out .exit) ≡ writtenTo (now (out .entry)) (headerOf (contentOf packet c)) (contentOf packet c)) ⌝ }
+{
+    let d = commands2::data_of(c);
+    let bytes = d.bytes;
+    let n = d.size + 2;
+    let content = content_of(packet, commands2::number(c), bytes);
+    write_content(&content[..n], out)
+}
+
+// Writes the packet of a command under a packet number to the start of out.
+pub fn write_packet(packet: u8, c: Command, out: &mut [u8]) -> Wrote
+    ensures { λ r. ⌜ (r ≡ wrote packet c (now (out .entry))) × (now (out .exit) ≡ written packet c (now (out .entry))) ⌝ }
+{
+    if commands2::good(c) {
+        let used = write_good(packet, c, out);
+        if used == 0 {
+            return Wrote {
+                answer: answers::OUTPUT_TOO_SHORT,
+                used: 0,
+            };
+        }
+        return Wrote {
+            answer: answers::DONE,
+            used: used as u8,
+        };
+    }
+    Wrote {
+        answer: answers::NOT_GOOD,
+        used: 0,
+    }
+}
