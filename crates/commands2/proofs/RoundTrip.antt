@@ -22,7 +22,7 @@ use Rattle.commands2.proofs.EachCommand.{carried-or-other, each-read}
 -- ---- writing, then reading
 
 -- THEOREM. Another command is not good.
-pub good-not-other : (c : Command) → good c ≡ true → isOther c ≡ false
+good-not-other : (c : Command) → good c ≡ true → isOther c ≡ false
 good-not-other c g = ⊎-elim (λ e. e) (λ o. let h : good (Other (o .0)) ≡ true = rw (o .1) at g in cc) (carried-or-other c)
 
 mode-back : (there : Bool) (mode : ℕ) → goodMode there mode ≡ true → getD (cond there (mode ∷ []) []) 0 0 ≡ mode

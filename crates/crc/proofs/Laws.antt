@@ -61,11 +61,6 @@ module _ (k poly : ℕ) where
     steps-xor zero a b ha hb = refl
     steps-xor (suc n) a b ha hb = ap (bitSteps n k poly) (step-xor a b ha hb) ∙ steps-xor n (bitStep k poly a) (bitStep k poly b) (step-lt a ha) (step-lt b hb)
 
-    pub steps-lt : (n a : ℕ) → a < 2 ^ suc k → bitSteps n k poly a < 2 ^ suc k
-    unfolding bitSteps
-    steps-lt zero a h = h
-    steps-lt (suc n) a h = steps-lt n (bitStep k poly a) (step-lt a h)
-
 -- THEOREM. A byte into 8 + m bits: the table's entry for the top eight, and the low m moved up.
 pub by-table : (m poly r b : ℕ) → poly < 2 ^ (8 + m) → r < 2 ^ (8 + m) → b < 256
     → byteStep (7 + m) poly r b ≡ bitXor (r % 2 ^ m * 256) (bitSteps 8 (7 + m) poly (bitXor (r / 2 ^ m) b * 2 ^ m))

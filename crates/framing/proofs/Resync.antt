@@ -147,18 +147,6 @@ packet-alone h b c =
     let n : 1 + length l + 1 ≡ suc (length (l ++ stopByte ∷ [])) = simp length-append (omega arith) in
     scan-clean l startByte 1 1 (clean-body h b c startByte) (omega arith) ∙ ap (packet-at 1) n
 
--- so it is found after any such bytes
-pub resync : (g h : List ℕ) (b : ℕ) (c rest : List ℕ) → eqb (lastOf 0 g) stuffingByte ≡ false
-    → founds 0 0 0 (g ++ (packetOf h (b ∷ c) ++ rest))
-    ≡ founds 0 0 0 g ++ packet-at (length g + 1) (length g + length (packetOf h (b ∷ c))) ∷ founds 0 0 (length g + length (packetOf h (b ∷ c))) rest
-resync g h b c rest = resync-alone g (packetOf h (b ∷ c)) rest (packet-alone h b c)
-
--- THEOREM. After bytes that hold no finished packet and do not end in a stuffing byte, it is the first one found.
-pub found-after : (g h : List ℕ) (b : ℕ) (c rest : List ℕ) → founds 0 0 0 g ≡ [] → eqb (lastOf 0 g) stuffingByte ≡ false
-    → scan 0 0 0 (g ++ (packetOf h (b ∷ c) ++ rest)) ≡ packet-at (length g + 1) (length g + length (packetOf h (b ∷ c)))
-unfolding firstOf
-found-after g h b c rest n e = scan-first (g ++ (packetOf h (b ∷ c) ++ rest)) 0 0 0 ∙ ap firstOf (resync g h b c rest e) ∙ rw n
-
 -- THEOREM. Where a packet is found after other bytes, its body is the one that it has alone.
 pub body-alone : (g p rest : List ℕ) → 0 < length p
     → bodyAt (g ++ (p ++ rest)) (packet-at (length g + 1) (length g + length p)) ≡ bodyAt p (packet-at 1 (length p))

@@ -7,7 +7,7 @@ ghost use mathlib.Core.Path.{_≡_};
 ghost use mathlib.Core.Bool.{true, false, cond};
 ghost use mathlib.Core.List.{_++_};
 ghost use lib.Dec.{ltb};
-ghost use lib.ListN.{length, getD, take, drop, replicate};
+ghost use lib.ListN.{length, getD, drop};
 ghost use Rattle.commands.specs.Answers.{firstOf};
 ghost use Rattle.stuffing.specs.Stuffing.{pairsGood};
 ghost use Rattle.commands2.specs.Commands.{commandOf};

@@ -4,17 +4,13 @@ use mathlib.Core.List.{List, [], _∷_, _++_, append-nil}
 use Prim.Native.Nat.{ℕ, suc, _+_, _≤_, _<_}
 use native.Mathlib.Numerals.{add-one}
 use native.Mathlib.Omega.{arith}
-use lib.ListN.{length, take, drop, set, length-append, length-take, length-drop, take-append-drop, drop-of-length-le}
+use lib.ListN.{length, take, drop, set, take-append-drop, drop-of-length-le}
 use lib.Seq.{take-all, take-nil, drop-nil, drop-cons, take-suc-set, drop-set-lt, append-snoc}
 use Rattle.stuffing.specs.Overlay.{overlay}
 
 pub overlay-fits : (bytes out : List ℕ) → length bytes ≤ length out → overlay bytes out ≡ bytes ++ drop (length bytes) out
 unfolding overlay
 overlay-fits bytes out h = rw (take-all (length out) bytes h)
-
-pub length-overlay : (bytes out : List ℕ) → length (overlay bytes out) ≡ length out
-unfolding overlay
-length-overlay bytes out = simp (length-append, length-take, length-drop) (omega arith)
 
 -- ---- an output of which a part is put: out as it stands up to place to, and bytes from there on
 abbrev pub from : ℕ → List ℕ → List ℕ → List ℕ

@@ -54,7 +54,7 @@ module _ (r : Data) (c : Command) (e : r ≡ dataByValue c) where
   data-bytes = ap (λ (d : Data). d .bytes) e
 
 -- a command's content is the front of its nine bytes by value
-pub content-front : (packet : ℕ) (c : Command) → take (length (dataOf c) + 2) (packet ∷ numberOf c ∷ take 7 (dataOf c ++ replicate 7 0)) ≡ contentOf packet c
+content-front : (packet : ℕ) (c : Command) → take (length (dataOf c) + 2) (packet ∷ numberOf c ∷ take 7 (dataOf c ++ replicate 7 0)) ≡ contentOf packet c
 content-front packet c =
     let n : length (dataOf c) + 2 ≡ suc (suc (length (dataOf c))) = omega arith in
     rw n (ap (λ (l : List ℕ). packet ∷ numberOf c ∷ l) (front (dataOf c) (replicate 7 0) 7 (length-data-le c)))
@@ -73,7 +73,7 @@ module _ (packet number : ℕ) (c : Command) (m : number ≡ numberOf c) (r : Da
 
 module _ (packet : ℕ) (c : Command) where
   -- at most 1 + 4 + 18 + 1 bytes
-  pub packet-small : length (packetBytes packet c) < 256
+  packet-small : length (packetBytes packet c) < 256
   unfolding framed headerOf
   packet-small =
       omega (arith, length-packet (headerOf (contentOf packet c)) (contentOf packet c), length-stuffed-le (contentOf packet c), length-data-le c)
