@@ -29,9 +29,7 @@ size-requires-2 : tie.Need-size-requires-2
 size-requires-2 c κs = search needs
 
 add-start : tie.Need-add-start
-add-start c =
-    let h = c .before .before .before .before .before .args .t2 in
-    record { fits = omega (arith, size-le (getD h 0 0) _ (c .before .size .ensures), size-le (getD h 1 0) _ (c .size2 .ensures)) }
+add-start c = record { fits = omega (arith, size-le _ _ (c .before .size .ensures), size-le _ _ (c .size2 .ensures)) }
 
 sub-unstuff : tie.Need-sub-unstuff
 sub-unstuff c =
