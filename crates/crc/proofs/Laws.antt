@@ -7,10 +7,11 @@ use native.Mathlib.Nat.{mod-lt, mod-one, mod-eq-of-lt, div-one, div-eq-of-lt, ad
 use native.Mathlib.Numerals.{add-one}
 use native.Mathlib.Omega.{arith}
 use lib.Pow.{pow-pos, pow-mono, shl-lt, shr-lt, split}
-use lib.Bits.{bitXor, xor-mod, xor-shr, xor-lt, xor-block, xor-shifted, xor-comm, xor-zero-r}
+use lib.Bits.{bitXor, xor-mod, xor-shr, xor-lt, xor-block, xor-shifted, xor-comm, xor-zero-l, xor-zero-r}
 use lib.ListN.{length, drop, getD, drop-of-length-le}
 use lib.Seq.{drop-cons}
-use Rattle.crc.specs.Crc.{bitStep, bitSteps, byteStep, crc}
+use Rattle.crc.specs.Crc.{bitStep, bitSteps, byteStep, tableOf, crc}
+use Rattle.crc.proofs.Table.{entry}
 use Rattle.crc.proofs.Xor.{xor-swap, xor-shl, xor-bit}
 
 top : (k : ℕ) {a : ℕ} → a < 2 ^ suc k → a / 2 ^ k < 2
@@ -61,6 +62,11 @@ module _ (k poly : ℕ) where
     steps-xor zero a b ha hb = refl
     steps-xor (suc n) a b ha hb = ap (bitSteps n k poly) (step-xor a b ha hb) ∙ steps-xor n (bitStep k poly a) (bitStep k poly b) (step-lt a ha) (step-lt b hb)
 
+    steps-lt : (n a : ℕ) → a < 2 ^ suc k → bitSteps n k poly a < 2 ^ suc k
+    unfolding bitSteps
+    steps-lt zero a h = h
+    steps-lt (suc n) a h = steps-lt n (bitStep k poly a) (step-lt a h)
+
 -- THEOREM. A byte into 8 + m bits: the table's entry for the top eight, and the low m moved up.
 pub by-table : (m poly r b : ℕ) → poly < 2 ^ (8 + m) → r < 2 ^ (8 + m) → b < 256
     → byteStep (7 + m) poly r b ≡ bitXor (r % 2 ^ m * 256) (bitSteps 8 (7 + m) poly (bitXor (r / 2 ^ m) b * 2 ^ m))
@@ -81,9 +87,18 @@ by-table m poly r b hp hr hb =
     ∙ ap (bitXor (bitSteps 8 k poly (x * 2 ^ m))) (low-bits k poly 8 m (r % 2 ^ m) (omega arith) lo)
     ∙ xor-comm (bitSteps 8 k poly (x * 2 ^ m)) (r % 2 ^ m * 256)
 
--- into eight bits nothing stands below
-pub by-table8 : (poly r b : ℕ) → poly < 256 → r < 256 → b < 256 → byteStep 7 poly r b ≡ bitSteps 8 7 poly (bitXor r b)
-by-table8 poly r b hp hr hb = by-table 0 poly r b hp hr hb ∙ simp (mod-one, div-one, mul-one)
+-- into eight bits nothing stands below: a byte leaves what stands in the table at its sum with the remainder
+pub looked-up8 : (poly : ℕ) (table : List ℕ) → table ≡ tableOf 7 poly → (r b : ℕ) → poly < 256 → r < 256 → b < 256 → getD table (bitXor r b) 0 ≡ byteStep 7 poly r b
+looked-up8 poly table e r b hp hr hb =
+    let x = bitXor r b in
+    let hx : x < 256 = xor-lt 8 r b hr hb in
+    ap (λ (t : List ℕ). getD t x 0) e ∙ entry 7 poly x hx
+    ∙ by-table 0 poly 0 x hp (omega arith) hx ∙ ap (λ (n : ℕ). bitSteps 8 7 poly (n * 2 ^ 0)) (xor-zero-l x)
+    ∙ sym (by-table 0 poly r b hp hr hb ∙ simp (mod-one, div-one, mul-one))
+
+pub byte-lt8 : (poly r b : ℕ) → poly < 256 → r < 256 → b < 256 → byteStep 7 poly r b < 256
+unfolding byteStep
+byte-lt8 poly r b hp hr hb = steps-lt 7 poly hp 8 (bitXor r (b * 1)) (xor-lt 8 r (b * 1) hr (omega arith))
 
 -- ---- bytes one after the other
 pub crc-append : (k poly r : ℕ) (a b : List ℕ) → crc k poly r (a ++ b) ≡ crc k poly (crc k poly r a) b

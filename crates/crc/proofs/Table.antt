@@ -1,31 +1,16 @@
--- A rule of a table, tested once at each of its entries by computation, holds at every place of it. Assumes nothing.
-use mathlib.Core.Path.{_≡_, _∙_, subst, sym}
-use mathlib.Core.Bool.{Bool, true, false, _&&_}
-use mathlib.Core.List.{List, [], _∷_}
+-- What stands at each place of a table. Assumes nothing.
+use mathlib.Core.Path.{_≡_, sym, ap, _∙_}
 use Prim.Native.Nat.{ℕ, zero, suc, _+_, _<_}
 use native.Mathlib.Nat.{add-zero, zero-add, add-suc, suc-add, le-of-suc-le-suc, not-suc-le-zero}
-use lib.Dec.{T, eqb, eqb→eq}
 use lib.ListN.{length, getD}
+use Rattle.crc.specs.Crc.{entriesFrom, tableOf, byteStep}
 
-both-left : (a b : Bool) → T (a && b) → T a
-both-left true b t = tt
-both-left false b t = t
+entry-from : (f : ℕ → ℕ) (i n j : ℕ) → j < n → getD (entriesFrom f i n) j 0 ≡ f (i + j)
+unfolding entriesFrom
+entry-from f i zero j h = absurd (not-suc-le-zero h)
+entry-from f i (suc n) zero h = ap f (sym (add-zero i))
+entry-from f i (suc n) (suc j) h = entry-from f (suc i) n j (le-of-suc-le-suc h) ∙ ap f (suc-add i j ∙ sym (add-suc i j))
 
-both-right : (a b : Bool) → T (a && b) → T b
-both-right true b t = t
-both-right false b t = absurd t
-
--- each entry is what f gives for its place, counted from i
-abbrev pub every : (ℕ → ℕ) → ℕ → List ℕ → Bool
-every f i [] = true
-every f i (x ∷ xs) = eqb x (f i) && every f (suc i) xs
-
-from : (f : ℕ → ℕ) (xs : List ℕ) (i : ℕ) → T (every f i xs) → (k : ℕ) → k < length xs → getD xs k 0 ≡ f (i + k)
-from f [] i t k h = absurd (not-suc-le-zero h)
-from f (x ∷ xs) i t zero h = subst (λ (m : ℕ). x ≡ f m) (sym (add-zero i)) (eqb→eq x (f i) (both-left (eqb x (f i)) (every f (suc i) xs) t))
-from f (x ∷ xs) i t (suc k) h =
-    subst (λ (m : ℕ). getD xs k 0 ≡ f m) (suc-add i k ∙ sym (add-suc i k))
-    (from f xs (suc i) (both-right (eqb x (f i)) (every f (suc i) xs) t) k (le-of-suc-le-suc h))
-
-pub at : (f : ℕ → ℕ) (xs : List ℕ) → T (every f 0 xs) → (k : ℕ) → k < length xs → getD xs k 0 ≡ f k
-at f xs t k h = subst (λ (m : ℕ). getD xs k 0 ≡ f m) (zero-add k) (from f xs 0 t k h)
+pub entry : (k poly b : ℕ) → b < 256 → getD (tableOf k poly) b 0 ≡ byteStep k poly 0 b
+unfolding tableOf
+entry k poly b h = entry-from (byteStep k poly 0) 0 256 b h ∙ ap (byteStep k poly 0) (zero-add b)

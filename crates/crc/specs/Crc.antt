@@ -16,6 +16,14 @@ bitSteps (suc n) k poly r = bitSteps n k poly (bitStep k poly r)
 unfoldable pub byteStep : ℕ → ℕ → ℕ → ℕ → ℕ
 byteStep k poly r b = bitSteps 8 k poly (bitXor r (b * 2 ^ (k - 7)))
 
+-- a table of the check: for each byte in turn what it leaves of the remainder 0
+unfoldable pub entriesFrom : (ℕ → ℕ) → ℕ → ℕ → List ℕ
+entriesFrom f i zero = []
+entriesFrom f i (suc n) = f i ∷ entriesFrom f (suc i) n
+
+unfoldable pub tableOf : ℕ → ℕ → List ℕ
+tableOf k poly = entriesFrom (byteStep k poly 0) 0 256
+
 -- bytes, from the remainder r on
 unfoldable pub crc : ℕ → ℕ → ℕ → List ℕ → ℕ
 crc k poly r [] = r

@@ -1,8 +1,8 @@
 // A cyclic redundancy check of eight bits, by a table (source 000, section 2.2).
 ghost use mathlib.Core.Path.{_≡_};
-ghost use Rattle.crc.specs.Crc.{bitSteps, byteStep, crc};
+ghost use Rattle.crc.specs.Crc.{tableOf, crc};
 
-// What the eight bits of each byte leave: entry i is i after eight bits.
+// What each byte leaves of the remainder 0.
 const REMAINDERS: [u8; 256] = [
     0,
     7,
@@ -262,27 +262,22 @@ const REMAINDERS: [u8; 256] = [
     243,
 ];
 
-fn remainder(i: u8) -> u8
-    ensures { λ r. ⌜ r ≡ bitSteps 8 7 7 i ⌝ }
+// The table by value: a loop takes it once.
+pub fn remainders8() -> [u8; 256]
+    ensures { λ t. ⌜ t ≡ tableOf 7 7 ⌝ }
 {
-    REMAINDERS[i as usize]
-}
-
-// The remainder after one byte more.
-pub fn step8(r: u8, b: u8) -> u8
-    ensures { λ q. ⌜ q ≡ byteStep 7 7 r b ⌝ }
-{
-    remainder(r ^ b)
+    REMAINDERS
 }
 
 // The remainder after bytes more.
 pub fn check8(r: u8, s: &[u8]) -> u8
     ensures { λ q. ⌜ q ≡ crc 7 7 r (now (s .entry)) ⌝ }
 {
+    let table = remainders8();
     let mut q = r;
     let mut i = 0;
     while i < s.len() {
-        q = step8(q, s[i]);
+        q = table[(q ^ s[i]) as usize];
         i += 1;
     }
     q

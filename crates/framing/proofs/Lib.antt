@@ -3,3 +3,4 @@ pub mod Writing
 pub mod ReadOn
 pub mod Clean
 pub mod Resync
+pub mod Blocks

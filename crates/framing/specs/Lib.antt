@@ -1,2 +1,3 @@
 pub mod Packet
 pub mod Scan
+pub mod Blocks

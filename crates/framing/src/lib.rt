@@ -11,6 +11,7 @@ ghost use lib.Seq.{sets};
 ghost use Rattle.stuffing.specs.Stuffing.{pair, stuffedByte, stuffed, pairs};
 ghost use Rattle.framing.specs.Packet.{packetOf, sizeWritten, writtenTo};
 ghost use Rattle.framing.specs.Scan.{opens, closes, scan};
+ghost use Rattle.framing.specs.Blocks.{quiet};
 
 // Where a finished packet lies: its first byte after the start, and the place after its stop; both 0 where none is finished.
 pub struct Found {
@@ -30,7 +31,21 @@ fn is_open(prev: u8, b: u8) -> bool
     (prev != STUFFING) & (b == START)
 }
 
-// The first packet that is finished in s.
+// How many bytes are passed over at once.
+const BLOCK: usize = 16;
+
+// Is at the place of a whole block in which no byte is special?
+fn is_quiet(s: &[u8], at: usize) -> bool
+    requires { ⌜ at ≤ length (now s) ⌝ }
+    ensures { λ r. ⌜ r ≡ quiet (now (s .entry)) at ⌝ }
+{
+    if (at % BLOCK == 0) & (BLOCK <= s.len() - at) {
+        return !stuffing::any_special(&s[at..at + BLOCK]);
+    }
+    false
+}
+
+// The first packet that is finished in s. In a quiet block nothing opens or closes, and no byte behind it stands straight after a stuffing byte.
 pub fn find(s: &[u8]) -> Found
     ensures { λ r. ⌜ r ≡ scan 0 0 0 (now (s .entry)) ⌝ }
 {
@@ -38,15 +53,20 @@ pub fn find(s: &[u8]) -> Found
     let mut body: usize = 0;
     let mut at: usize = 0;
     while at < s.len() {
-        let b = s[at];
-        if is_close(prev, body, b) {
-            return Found { body, used: at + 1 };
+        if is_quiet(s, at) {
+            prev = 0;
+            at += BLOCK;
+        } else {
+            let b = s[at];
+            if is_close(prev, body, b) {
+                return Found { body, used: at + 1 };
+            }
+            if is_open(prev, b) {
+                body = at + 1;
+            }
+            prev = b;
+            at += 1;
         }
-        if is_open(prev, b) {
-            body = at + 1;
-        }
-        prev = b;
-        at += 1;
     }
     Found { body: 0, used: 0 }
 }

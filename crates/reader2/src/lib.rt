@@ -4,15 +4,16 @@ use commands2::Command;
 use stuffing::KEY;
 use stuffing::STUFFING;
 ghost use mathlib.Core.Path.{_≡_};
-ghost use mathlib.Core.Bool.{true, false, cond};
+ghost use mathlib.Core.Bool.{true, cond};
 ghost use mathlib.Core.List.{_++_};
+ghost use Prim.Native.Nat.{_≤_};
 ghost use lib.Dec.{ltb};
 ghost use lib.ListN.{length, getD, drop};
+ghost use lib.Seq.{sets};
 ghost use Rattle.commands.specs.Answers.{firstOf};
-ghost use Rattle.stuffing.specs.Stuffing.{pairsGood};
+ghost use Rattle.stuffing.specs.Stuffing.{stuffed};
 ghost use Rattle.commands2.specs.Commands.{commandOf};
-ghost use Rattle.reader2.specs.Head.{headOf, seven};
-ghost use Rattle.reader2.specs.Reader.{covered, checkRight, lengthRight, plain, sizeGood, dataIn, commandIn, coveredTests, bodyAnswer, refused, found, answered, put, readPacket, dataPut};
+ghost use Rattle.reader2.specs.Reader.{covered, checkRight, lengthRight, sizeGood, dataIn, coveredTests, bodyAnswer, refused, found, answered, put, readPacket, dataPut};
 
 // What reading a packet reports: its answer, the bytes used, the packet number, the command, and how many data bytes it put to the output.
 pub struct Read {
@@ -66,73 +67,92 @@ fn size_good(n: usize) -> bool
     (2 <= n) & (n <= 62)
 }
 
-// The first nine bytes that these stand for, zeros behind them.
-fn head(c: &[u8]) -> [u8; 9]
-    ensures { λ r. ⌜ r ≡ headOf (now (c .entry)) ⌝ }
+// The byte at a place, 0 behind the last.
+fn byte_at(p: &[u8], i: usize) -> u8
+    ensures { λ r. ⌜ r ≡ getD (now (p .entry)) i 0 ⌝ }
 {
-    let mut first = [0; 9];
-    stuffing::unstuff(&mut first, c);
-    first
+    if i < p.len() {
+        return p[i];
+    }
+    0
 }
 
 // The command whose number and values stand behind the packet number.
-fn command_in(first: [u8; 9]) -> Command
-    ensures { λ r. ⌜ r ≡ commandOf (getD first 1 0) (seven first) ⌝ }
+fn command_in(p: &[u8]) -> Command
+    ensures { λ r. ⌜ r ≡ commandOf (getD (now (p .entry)) 1 0) (drop 2 (now (p .entry))) ⌝ }
 {
     let d = [
-        first[2],
-        first[3],
-        first[4],
-        first[5],
-        first[6],
-        first[7],
-        first[8],
+        byte_at(p, 2),
+        byte_at(p, 3),
+        byte_at(p, 4),
+        byte_at(p, 5),
+        byte_at(p, 6),
+        byte_at(p, 7),
+        byte_at(p, 8),
     ];
-    commands2::command_of(first[1], d)
+    commands2::command_of(byte_at(p, 1), d)
 }
 
-// Covered bytes that pass every test but the room's.
-fn read_data(
-    c: &[u8],
-    first: [u8; 9],
-    command: Command,
-    size: u8,
-    out: &mut [u8],
-    used: usize,
-) -> Read
-    requires { ⌜ (pairsGood false (now c) ≡ true) × (sizeGood (length (plain (now c))) ≡ true) × (first ≡ headOf (now c)) × (command ≡ commandIn (now c)) × (size ≡ length (dataIn (now c))) ⌝ }
-    ensures { λ r. ⌜ (r ≡ cond (ltb (length (now (out .entry))) (length (dataIn (now (c .entry))))) (refused 16 0) (found (now (c .entry)) used)) × (now (out .exit) ≡ cond (ltb (length (now (out .entry))) (length (dataIn (now (c .entry))))) (now (out .entry)) (dataIn (now (c .entry)) ++ drop (length (dataIn (now (c .entry)))) (now (out .entry)))) ⌝ }
+// Puts bytes to the start of out.
+fn copy(out: &mut [u8], bytes: &[u8])
+    requires { ⌜ length (now bytes) ≤ length (now out) ⌝ }
+    ensures { λ _. ⌜ now (out .exit) ≡ sets (now (out .entry)) 0 (now (bytes .entry)) ⌝ }
 {
-    if size as usize <= out.len() {
-        let packet = first[0];
-        let start = stuffing::size(packet) + stuffing::size(first[1]);
-        stuffing::unstuff(out, &c[start..]);
+    let mut i = 0;
+    while i < bytes.len() {
+        out[i] = bytes[i];
+        i += 1;
+    }
+}
+
+// A packet that passes every test but the room's; p is what its covered bytes stand for.
+fn read_data(p: &[u8], command: Command, out: &mut [u8], used: usize) -> Read
+    requires { ⌜ (sizeGood (length (now p)) ≡ true) × (command ≡ commandOf (getD (now p) 1 0) (drop 2 (now p))) ⌝ }
+    ensures { λ r. ⌜ (r ≡ cond (ltb (length (now (out .entry))) (length (dataIn (stuffed (now (p .entry)))))) (refused 16 0) (found (stuffed (now (p .entry))) used)) × (now (out .exit) ≡ cond (ltb (length (now (out .entry))) (length (dataIn (stuffed (now (p .entry)))))) (now (out .entry)) (dataIn (stuffed (now (p .entry))) ++ drop (length (dataIn (stuffed (now (p .entry))))) (now (out .entry)))) ⌝ }
+{
+    let size = p.len() - 2;
+    if size <= out.len() {
+        copy(out, &p[2..]);
         return Read {
             answer: answers::DONE,
             used,
-            packet,
+            packet: p[0],
             command,
-            size,
+            size: size as u8,
         };
     }
     refuse(answers::OUTPUT_TOO_SHORT, 0)
 }
 
-fn read_covered(c: &[u8], out: &mut [u8], used: usize) -> Read
-    ensures { λ r. ⌜ (r ≡ answered (firstOf (coveredTests (now (c .entry)) (length (now (out .entry))))) (now (c .entry)) used) × (now (out .exit) ≡ put (firstOf (coveredTests (now (c .entry)) (length (now (out .entry))))) (now (c .entry)) (now (out .entry))) ⌝ }
+// A packet whose covered bytes are those that the writer makes of p.
+fn read_plain(p: &[u8], out: &mut [u8], used: usize) -> Read
+    ensures { λ r. ⌜ (r ≡ answered (firstOf (coveredTests (stuffed (now (p .entry))) (length (now (out .entry))))) (stuffed (now (p .entry))) used) × (now (out .exit) ≡ put (firstOf (coveredTests (stuffed (now (p .entry))) (length (now (out .entry))))) (stuffed (now (p .entry))) (now (out .entry))) ⌝ }
 {
-    let surveyed = stuffing::survey(c);
-    let n = surveyed.size;
-    if surveyed.good & size_good(n) {
-        let first = head(c);
-        let command = command_in(first);
-        let size = n - 2;
-        if commands2::right(command, size) {
-            return read_data(c, first, command, size as u8, out, used);
+    let n = p.len();
+    if size_good(n) {
+        let command = command_in(p);
+        if commands2::right(command, n - 2) {
+            return read_data(p, command, out, used);
         }
         return refuse(answers::NOT_GOOD, used);
     }
     refuse(answers::NOT_GOOD, used)
+}
+
+// Covered bytes. Where none is special they stand for themselves.
+fn read_covered(c: &[u8], out: &mut [u8], used: usize) -> Read
+    ensures { λ r. ⌜ (r ≡ answered (firstOf (coveredTests (now (c .entry)) (length (now (out .entry))))) (now (c .entry)) used) × (now (out .exit) ≡ put (firstOf (coveredTests (now (c .entry)) (length (now (out .entry))))) (now (c .entry)) (now (out .entry))) ⌝ }
+{
+    if stuffing::any_special(c) {
+        let mut plain = [0; 62];
+        let surveyed = stuffing::unstuff(&mut plain, c);
+        let n = surveyed.size;
+        if surveyed.good & (n <= 62) {
+            return read_plain(&plain[..n], out, used);
+        }
+        return refuse(answers::NOT_GOOD, used);
+    }
+    read_plain(c, out, used)
 }
 
 fn read_body(b: &[u8], out: &mut [u8], used: usize) -> Read

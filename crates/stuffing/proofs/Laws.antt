@@ -1,6 +1,6 @@
 -- The laws of stuffing that the code's proofs cite. Assumes nothing.
 use mathlib.Core.Path.{_≡_, refl, sym, ap, _∙_}
-use mathlib.Core.Bool.{Bool, true, false, not, cond, _&&_, false≢true}
+use mathlib.Core.Bool.{Bool, true, false, not, cond, _&&_, _||_, or-false, false≢true}
 use mathlib.Core.List.{List, [], _∷_, _++_}
 use Prim.Native.Nat.{ℕ, suc, _+_, _≤_, _<_}
 use native.Mathlib.Numerals.{add-one}
@@ -9,7 +9,7 @@ use lib.Bits.{bitXor}
 use lib.Dec.{eqb}
 use lib.ListN.{length, drop, getD, length-append, drop-of-length-le}
 use lib.Seq.{drop-cons}
-use Rattle.stuffing.specs.Stuffing.{stuffingByte, stuffingKey, special, pair, stuffedByte, stuffed, pairs, opensPair, wrongIn, pairsGood, plainOf, unstuffed}
+use Rattle.stuffing.specs.Stuffing.{stuffingByte, stuffingKey, special, anySpecial, pair, stuffedByte, stuffed, pairs, opensPair, wrongIn, pairsGood, plainOf, unstuffed}
 
 -- ---- a byte
 pub stuffed-special : (b : ℕ) → special b ≡ true → stuffedByte b ≡ pair b
@@ -27,6 +27,25 @@ size-le b n = by (special b)
     by : (t : Bool) → n ≡ length (cond t (pair b) (b ∷ [])) → n ≤ 2
     by true e = omega arith
     by false e = omega arith
+
+-- ---- is any special? a turn of a loop, and its end
+pub any-on : (s : List ℕ) (i : ℕ) → i < length s → anySpecial (drop i s) ≡ (special (getD s i 0) || anySpecial (drop (i + 1) s))
+unfolding anySpecial
+any-on s i h = rw (add-one i, drop-cons s i 0)
+
+pub any-end : (any : Bool) (s : List ℕ) (i : ℕ) → length s ≤ i → any ≡ (any || anySpecial (drop i s))
+unfolding anySpecial
+any-end any s i h = rw (drop-of-length-le s h) (sym (or-false any))
+
+-- where none is, they stand for themselves, and stuffing leaves them
+pub none-stuffed : (s : List ℕ) → anySpecial s ≡ false → stuffed s ≡ s
+unfolding anySpecial stuffed
+none-stuffed [] e = refl
+none-stuffed (b ∷ s) e = by (special b) refl e (none-stuffed s)
+  where
+    by : (t : Bool) → special b ≡ t → (t || anySpecial s) ≡ false → (anySpecial s ≡ false → stuffed s ≡ s) → stuffed (b ∷ s) ≡ b ∷ s
+    by true p q f = absurd (false≢true (sym q))
+    by false p q f = ap (λ (l : List ℕ). l ++ stuffed s) (stuffed-plain b p) ∙ ap (λ (l : List ℕ). b ∷ l) (f q)
 
 -- ---- bytes, each written by f; stuffed and pairs are two of these
 module _ (f : ℕ → List ℕ) (all : List ℕ → List ℕ) (nil : all [] ≡ []) (cons : (b : ℕ) (l : List ℕ) → all (b ∷ l) ≡ f b ++ all l) where

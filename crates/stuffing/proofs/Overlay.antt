@@ -1,11 +1,14 @@
 -- The laws of bytes put to the start of an output. Assumes nothing.
-use mathlib.Core.Path.{_≡_}
+use mathlib.Core.Path.{_≡_, refl, sym, _∙_}
+use mathlib.Core.Bool.{Bool, true, false}
 use mathlib.Core.List.{List, [], _∷_, _++_, append-nil}
 use Prim.Native.Nat.{ℕ, suc, _+_, _≤_, _<_}
 use native.Mathlib.Numerals.{add-one}
 use native.Mathlib.Omega.{arith}
-use lib.ListN.{length, take, drop, set, take-append-drop, drop-of-length-le}
-use lib.Seq.{take-all, take-nil, drop-nil, drop-cons, take-suc-set, drop-set-lt, append-snoc}
+use borrow.Author.Tests.{ltb-true, ltb-false}
+use lib.Dec.{ltb}
+use lib.ListN.{length, take, drop, set, length-set, take-append-drop, drop-of-length-le}
+use lib.Seq.{take-all, take-nil, drop-nil, drop-cons, take-suc-set, drop-set-lt, set-out, append-snoc}
 use Rattle.stuffing.specs.Overlay.{overlay}
 
 pub overlay-fits : (bytes out : List ℕ) → length bytes ≤ length out → overlay bytes out ≡ bytes ++ drop (length bytes) out
@@ -16,13 +19,6 @@ overlay-fits bytes out h = rw (take-all (length out) bytes h)
 abbrev pub from : ℕ → List ℕ → List ℕ → List ℕ
 from to bytes out = take to out ++ overlay bytes (drop to out)
 
--- a byte more
-pub from-on : (to v : ℕ) (bytes out : List ℕ) → to < length out → from (to + 1) bytes (set out to v) ≡ from to (v ∷ bytes) out
-unfolding overlay
-from-on to v bytes out h =
-    rw (add-one to, take-suc-set out to v h, drop-set-lt (suc to) out to v (omega arith), drop-cons out to 0 h)
-    (append-snoc (take to out) v (overlay bytes (drop (suc to) out)))
-
 -- no byte left, or no room
 pub from-end : (to : ℕ) (out : List ℕ) → from to [] out ≡ out
 unfolding overlay
@@ -31,3 +27,20 @@ from-end to out = rw take-nil (take-append-drop to out)
 pub from-full : (to : ℕ) (bytes out : List ℕ) → length out ≤ to → from to bytes out ≡ out
 unfolding overlay
 from-full to bytes out h = rw (drop-of-length-le out h, drop-nil, take-all to out h) (append-nil out)
+
+-- a byte more
+pub from-on : (to v : ℕ) (bytes out : List ℕ) → from (to + 1) bytes (set out to v) ≡ from to (v ∷ bytes) out
+unfolding overlay
+from-on to v bytes out = by (ltb to (length out)) refl
+  where
+    within : to < length out → from (to + 1) bytes (set out to v) ≡ from to (v ∷ bytes) out
+    within h =
+        rw (add-one to, take-suc-set out to v h, drop-set-lt (suc to) out to v (omega arith), drop-cons out to 0 h)
+        (append-snoc (take to out) v (overlay bytes (drop (suc to) out)))
+
+    past : length out ≤ to → from (to + 1) bytes (set out to v) ≡ from to (v ∷ bytes) out
+    past h = from-full (to + 1) bytes (set out to v) (omega (arith, length-set out to v)) ∙ set-out out to v h ∙ sym (from-full to (v ∷ bytes) out h)
+
+    by : (t : Bool) → ltb to (length out) ≡ t → from (to + 1) bytes (set out to v) ≡ from to (v ∷ bytes) out
+    by true e = within (ltb-true to (length out) e)
+    by false e = past (ltb-false to (length out) e)

@@ -1,7 +1,7 @@
 -- Byte stuffing (source 000, section 2.2; source 002 has the same).
 use Prim.Native.Nat.{ℕ}
 use mathlib.Core.List.{List, [], _∷_, _++_}
-use mathlib.Core.Bool.{Bool, not, cond, _&&_, _||_}
+use mathlib.Core.Bool.{Bool, false, not, cond, _&&_, _||_}
 use lib.Bits.{bitXor}
 use lib.Dec.{eqb}
 
@@ -21,6 +21,10 @@ stuffingKey = 85
 -- "Every constant from Table 6, except the stuffing key, is escaped with the stuffing byte from the same table."
 unfoldable pub special : ℕ → Bool
 special b = eqb b startByte || (eqb b stopByte || eqb b stuffingByte)
+
+unfoldable pub anySpecial : List ℕ → Bool
+anySpecial [] = false
+anySpecial (b ∷ l) = special b || anySpecial l
 
 -- "The value is then XORed with the stuffing key."
 abbrev pub pair : ℕ → List ℕ

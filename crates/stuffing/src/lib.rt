@@ -2,8 +2,8 @@
 ghost use mathlib.Core.Path.{_≡_};
 ghost use mathlib.Core.Bool.{false, cond};
 ghost use lib.Bits.{bitXor};
-ghost use lib.ListN.{length};
-ghost use Rattle.stuffing.specs.Stuffing.{stuffingKey, special, stuffedByte, stuffed, opensPair, wrongIn, pairsGood, unstuffed};
+ghost use lib.ListN.{length, set};
+ghost use Rattle.stuffing.specs.Stuffing.{stuffingKey, special, anySpecial, stuffedByte, stuffed, opensPair, wrongIn, pairsGood, unstuffed};
 ghost use Rattle.stuffing.specs.Overlay.{overlay};
 
 // Source 000, table 6.
@@ -20,6 +20,19 @@ pub fn is_special(b: u8) -> bool
     ensures { λ r. ⌜ r ≡ special b ⌝ }
 {
     (b == START) | ((b == STOP) | (b == STUFFING))
+}
+
+// Is any of these stuffed?
+pub fn any_special(bytes: &[u8]) -> bool
+    ensures { λ r. ⌜ r ≡ anySpecial (now (bytes .entry)) ⌝ }
+{
+    let mut any = false;
+    let mut i = 0;
+    while i < bytes.len() {
+        any = any | is_special(bytes[i]);
+        i += 1;
+    }
+    any
 }
 
 // How many bytes b becomes.
@@ -68,8 +81,9 @@ pub struct Surveyed {
     pub size: usize,
 }
 
-pub fn survey(s: &[u8]) -> Surveyed
-    ensures { λ r. ⌜ r ≡ record { good = pairsGood false (now (s .entry)); size = length (unstuffed false (now (s .entry))) } ⌝ }
+// Puts what these bytes stand for to the start of out, as far as it has room.
+pub fn unstuff(out: &mut [u8], s: &[u8]) -> Surveyed
+    ensures { λ r. ⌜ (r ≡ record { good = pairsGood false (now (s .entry)); size = length (unstuffed false (now (s .entry))) }) × (now (out .exit) ≡ overlay (unstuffed false (now (s .entry))) (now (out .entry))) ⌝ }
 {
     let mut good = true;
     let mut size = 0;
@@ -78,34 +92,18 @@ pub fn survey(s: &[u8]) -> Surveyed
     while i < s.len() {
         let b = s[i];
         good = good & !is_wrong(after, b);
-        after = opens_pair(after, b);
-        if !after {
+        let opens = opens_pair(after, b);
+        if !opens {
+            let p = plain(after, b);
+            put(out, size, p);
             size += 1;
         }
+        after = opens;
         i += 1;
     }
     Surveyed {
         good: good & !after,
         size,
-    }
-}
-
-// Puts what these bytes stand for to the start of out, as far as it has room.
-pub fn unstuff(out: &mut [u8], s: &[u8])
-    ensures { λ _. ⌜ now (out .exit) ≡ overlay (unstuffed false (now (s .entry))) (now (out .entry)) ⌝ }
-{
-    let mut to = 0;
-    let mut after = false;
-    let mut i = 0;
-    while (i < s.len()) & (to < out.len()) {
-        let b = s[i];
-        let opens = opens_pair(after, b);
-        if !opens {
-            out[to] = plain(after, b);
-            to += 1;
-        }
-        after = opens;
-        i += 1;
     }
 }
 
@@ -117,4 +115,13 @@ fn plain(after: bool, b: u8) -> u8
         return b ^ KEY;
     }
     b
+}
+
+// Puts b at place at, if out has it.
+fn put(out: &mut [u8], at: usize, b: u8)
+    ensures { λ _. ⌜ now (out .exit) ≡ set (now (out .entry)) at b ⌝ }
+{
+    if at < out.len() {
+        out[at] = b;
+    }
 }

@@ -8,29 +8,25 @@ ghost use mathlib.Core.Path.{_≡_};
 ghost use mathlib.Core.List.{_∷_};
 ghost use Prim.Native.Nat.{_≤_};
 ghost use lib.ListN.{length};
-ghost use Rattle.crc.specs.Crc.{crc, crc8};
-ghost use Rattle.stuffing.specs.Stuffing.{stuffedByte, stuffed};
+ghost use Rattle.crc.specs.Crc.{crc8};
+ghost use Rattle.stuffing.specs.Stuffing.{stuffed};
 ghost use Rattle.framing.specs.Packet.{sizeWritten, writtenTo};
 ghost use Rattle.writer2.specs.Writer.{headerOf, contentOf, wrote, written};
-
-// The remainder after one byte more, stuffed if it must be.
-fn step_stuffed(r: u8, b: u8) -> u8
-    ensures { λ q. ⌜ q ≡ crc 7 7 r (stuffedByte b) ⌝ }
-{
-    if stuffing::is_special(b) {
-        return crc::step8(crc::step8(r, STUFFING), b ^ KEY);
-    }
-    crc::step8(r, b)
-}
 
 // The checksum over these bytes, stuffed.
 fn check_stuffed(c: &[u8]) -> u8
     ensures { λ r. ⌜ r ≡ crc8 (stuffed (now (c .entry))) ⌝ }
 {
+    let table = crc::remainders8();
     let mut r = 0;
     let mut i = 0;
     while i < c.len() {
-        r = step_stuffed(r, c[i]);
+        let mut b = c[i];
+        if stuffing::is_special(b) {
+            r = table[(r ^ STUFFING) as usize];
+            b = b ^ KEY;
+        }
+        r = table[(r ^ b) as usize];
         i += 1;
     }
     r

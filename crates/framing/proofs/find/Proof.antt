@@ -6,6 +6,7 @@ use borrow.Author.Needs.{needs}
 use lib.ListN.{length, drop, getD}
 use Rattle.framing.specs.Scan.{opened, scan}
 use Rattle.framing.proofs.Finding.{opened-yes, opened-no, scan-found, scan-on, scan-end}
+use Rattle.framing.proofs.Blocks.{within, quiet-turn}
 use Rattle.framing.proofs.find.Statement.{statement}
 use Rattle.framing.proofs.find.Tie as tie
 
@@ -18,20 +19,36 @@ abbrev μ-loop : tie.MeasureT-loop
 loop-holds : tie.Need-loop-holds Inv-loop μ-loop
 loop-holds c = (search needs, refl)
 
+is-quiet-requires : tie.Need-is-quiet-requires Inv-loop μ-loop
+is-quiet-requires c κs = search needs
+
+add-at : tie.Need-add-at Inv-loop μ-loop
+add-at c = let h = within _ _ (sym (c .before .is-quiet .ensures) ∙ c .if1 .taken) in search needs
+
+loop-less : tie.Need-loop-less Inv-loop μ-loop
+loop-less c = let h = within _ _ (sym (c .before .is-quiet .ensures) ∙ c .if1 .taken) in search needs
+
+loop-again : tie.Need-loop-again Inv-loop μ-loop
+loop-again c =
+    let l = c .before .before .before .loop in
+    let s = c .before .before .before .before .before .args .s .now in
+    let e = sym (c .before .is-quiet .ensures) ∙ c .if1 .taken in
+    (within s (l .at) e, sym (quiet-turn (l .prev) (l .body) s (l .at) e) ∙ l .inv .1)
+
 shared-slice-read-b : tie.Need-shared-slice-read-b Inv-loop μ-loop
 shared-slice-read-b c = search needs
 
 is-close-requires : tie.Need-is-close-requires Inv-loop μ-loop
 is-close-requires c κs = tt
 
-add-t11 : tie.Need-add-t11 Inv-loop μ-loop
-add-t11 c = search needs
+add-t12 : tie.Need-add-t12 Inv-loop μ-loop
+add-t12 c = search needs
 
 returns : tie.Need-returns Inv-loop μ-loop
 returns c =
-    let l = c .before .before .before .before .loop in
-    let s = c .before .before .before .before .before .before .args .s .now in
-    sym (scan-found (l .prev) (l .body) s (l .at) (search needs) (sym (c .before .is-close .ensures) ∙ c .if1 .taken)) ∙ l .inv .1
+    let l = c .before .before .before .before .before .before .loop in
+    let s = c .before .before .before .before .before .before .before .before .args .s .now in
+    sym (scan-found (l .prev) (l .body) s (l .at) (search needs) (sym (c .before .is-close .ensures) ∙ c .if2 .taken)) ∙ l .inv .1
 
 is-open-requires : tie.Need-is-open-requires Inv-loop μ-loop
 is-open-requires c κs = tt
@@ -39,23 +56,23 @@ is-open-requires c κs = tt
 add-body : tie.Need-add-body Inv-loop μ-loop
 add-body c = search needs
 
-add-at : tie.Need-add-at Inv-loop μ-loop
-add-at c = search needs
+add-at-2 : tie.Need-add-at-2 Inv-loop μ-loop
+add-at-2 c = search needs
 
-loop-less : tie.Need-loop-less Inv-loop μ-loop
-loop-less c = search needs
+loop-less-2 : tie.Need-loop-less-2 Inv-loop μ-loop
+loop-less-2 c = search needs
 
-loop-again : tie.Need-loop-again Inv-loop μ-loop
-loop-again c =
-    let l = c .before .before .before .before .before .before .loop in
-    let s = c .before .before .before .before .before .before .before .before .args .s .now in
+loop-again-2 : tie.Need-loop-again-2 Inv-loop μ-loop
+loop-again-2 c =
+    let l = c .before .before .before .before .before .before .before .before .loop in
+    let s = c .before .before .before .before .before .before .before .before .before .before .args .s .now in
     let b = getD s (l .at) 0 in
     let o = sym (c .before .is-open .ensures) in
-    let body : c .if2 .body ≡ opened (l .prev) (l .body) b (l .at) =
-    ⊎-elim (λ w. w .1 ∙ opened-yes (l .prev) (l .body) b (l .at) (o ∙ w .0 .taken)) (λ w. w .1 ∙ opened-no (l .prev) (l .body) b (l .at) (o ∙ w .0 .left)) (c .if2 .came) in (
+    let body : c .if3 .body ≡ opened (l .prev) (l .body) b (l .at) =
+    ⊎-elim (λ w. w .1 ∙ opened-yes (l .prev) (l .body) b (l .at) (o ∙ w .0 .taken)) (λ w. w .1 ∙ opened-no (l .prev) (l .body) b (l .at) (o ∙ w .0 .left)) (c .if3 .came) in (
       search needs,
       ap (λ (n : ℕ). scan b n (l .at + 1) (drop (l .at + 1) s)) body
-          ∙ sym (scan-on (l .prev) (l .body) s (l .at) (search needs) (sym (c .before .before .before .is-close .ensures) ∙ c .before .before .if1 .left)) ∙ l .inv .1,
+          ∙ sym (scan-on (l .prev) (l .body) s (l .at) (search needs) (sym (c .before .before .before .is-close .ensures) ∙ c .before .before .if2 .left)) ∙ l .inv .1,
     )
 
 returns-2 : tie.Need-returns-2 Inv-loop μ-loop
@@ -70,13 +87,17 @@ find-spec =
     Inv-loop
     μ-loop
     loop-holds
-    shared-slice-read-b
-    is-close-requires
-    add-t11
-    returns
-    is-open-requires
-    add-body
+    is-quiet-requires
     add-at
     loop-less
     loop-again
+    shared-slice-read-b
+    is-close-requires
+    add-t12
+    returns
+    is-open-requires
+    add-body
+    add-at-2
+    loop-less-2
+    loop-again-2
     returns-2)

@@ -1,62 +1,49 @@
 -- `reader2::read_data` meets its contract. Assumes nothing.
-use mathlib.Core.Path.{_≡_, ap₂, _∙_}
-use mathlib.Core.List.{List}
-use Prim.Native.Nat.{ℕ, _+_, _≤_}
+use mathlib.Core.Path.{_≡_, refl, ap, _∙_}
+use Prim.Native.Nat.{_-_, _≤_}
 use native.Mathlib.Omega.{arith}
-use lib.ListN.{length, getD}
-use Rattle.stuffing.specs.Stuffing.{stuffedByte}
-use Rattle.stuffing.proofs.Laws.{size-le}
-use Rattle.reader2.proofs.Covered.{start, start-within, fits-room, lacks-room}
+use lib.ListN.{length, drop, length-drop}
+use lib.Seq.{sets, take-all}
+use Rattle.reader2.proofs.Covered.{size-range, fits-room, lacks-room}
 use borrow.Author.Needs.{needs}
 use Rattle.reader2.proofs.read_data.Statement.{statement}
 use Rattle.reader2.proofs.read_data.Tie as tie
 use Rattle.reader2.proofs.read_data.Reads as reads
 use Rattle.reader2.proofs.read_data.Lts as lts
+use Rattle.reader2.proofs.copy.Reads as copy-reads
 use Rattle.reader2.proofs.refuse.Reads as refuse-reads
-use Rattle.stuffing.proofs.size.Reads as size-reads
-use Rattle.stuffing.proofs.unstuff.Reads as unstuff-reads
 
-array-read-packet : tie.Need-array-read-packet
-array-read-packet c = search needs
+sub-size : tie.Need-sub-size
+sub-size c = size-range _ (c .before .before .pre .0) .0
 
-size-requires : tie.Need-size-requires
-size-requires c κs = search needs
+sub-copy : tie.Need-sub-copy
+sub-copy c = size-range _ (c .before .before .before .before .pre .0) .0
 
-array-read-size : tie.Need-array-read-size
-array-read-size c = search needs
+part-copy-start : tie.Need-part-copy-start
+part-copy-start c = let k = size-range _ (c .before .before .before .before .pre .0) in search needs
 
-size-requires-2 : tie.Need-size-requires-2
-size-requires-2 c κs = search needs
+part-copy-end : tie.Need-part-copy-end
+part-copy-end c = search needs
 
-add-start : tie.Need-add-start
-add-start c = record { fits = omega (arith, size-le _ _ (c .before .size .ensures), size-le _ _ (c .size2 .ensures)) }
+copy-requires : tie.Need-copy-requires
+copy-requires c κs = search needs
 
-sub-unstuff : tie.Need-sub-unstuff
-sub-unstuff c =
-    let s = c .before .before .before .before .before .before in
-    let k = start-within (s .args .c .now) (s .pre .0) (s .pre .1) (s .args .t2) (s .pre .2) in
-    omega (arith, k, c .before .size2 .ensures, c .before .before .size .ensures)
+shared-slice-read-t16 : tie.Need-shared-slice-read-t16
+shared-slice-read-t16 c = omega (arith, size-range _ (c .before .before .before .before .before .before .before .before .before .pre .0) .0)
 
-part-unstuff-start : tie.Need-part-unstuff-start
-part-unstuff-start c =
-    let s = c .before .before .before .before .before .before in
-    let k = start-within (s .args .c .now) (s .pre .0) (s .pre .1) (s .args .t2) (s .pre .2) in
-    omega (arith, k, c .before .size2 .ensures, c .before .before .size .ensures)
-
-part-unstuff-end : tie.Need-part-unstuff-end
-part-unstuff-end c = search needs
-
-unstuff-requires : tie.Need-unstuff-requires
-unstuff-requires c κs = search needs
+cast-t17 : tie.Need-cast-t17
+cast-t17 c = record { fits = omega (arith, size-range _ (c .before .before .before .before .before .before .before .before .before .pre .0) .1) }
 
 same-length : tie.Need-same-length
 same-length c = search needs
 
 returns : tie.Need-returns
 returns c =
-    let s = c .before .before .before .before .before .before .before .before .before .before in
-    let f = fits-room (s .args .c .now) (s .pre .0) (s .pre .1) (s .args .t2) (s .pre .2) (s .args .command) (s .pre .3) (s .args .size) (s .pre .4) (s .args .out .now) (s .args .used) _ (ap₂ _+_ (c .before .before .before .before .before .before .size .ensures) (c .before .before .before .before .before .size2 .ensures)) (c .before .before .before .before .before .before .before .if1 .taken) in
-    (f .0, c .before .before .unstuff .ensures ∙ f .1)
+    let s = c .before .before .before .before .before .before .before .before .before in
+    let p = s .args .p .now in
+    let out = s .args .out .now in
+    let f = fits-room p out (s .args .used) (s .args .command) (s .pre .1) (length p - 2) refl (search needs) in
+    (f .0, c .before .before .before .copy .ensures ∙ ap (sets out 0) (take-all (length p - 2) (drop 2 p) (rw length-drop (omega arith))) ∙ f .1)
 
 refuse-requires : tie.Need-refuse-requires
 refuse-requires c κs = search needs
@@ -64,22 +51,20 @@ refuse-requires c κs = search needs
 returns-2 : tie.Need-returns-2
 returns-2 c =
     let s = c .before .before .before .before in
-    let f = lacks-room (s .args .c .now) (s .pre .0) (s .pre .1) (s .args .t2) (s .pre .2) (s .args .command) (s .pre .3) (s .args .size) (s .pre .4) (s .args .out .now) (s .args .used) (omega arith) in
+    let f = lacks-room (s .args .p .now) (s .args .out .now) (s .args .used) (s .args .command) (s .pre .1) (length (s .args .p .now) - 2) refl (omega arith) in
     (c .refuse .ensures ∙ f .0, f .1)
 
 pub read-data-spec : {M : Type 1} → statement M
 read-data-spec =
     tie.close
     (tie.spec
-    array-read-packet
-    size-requires
-    array-read-size
-    size-requires-2
-    add-start
-    sub-unstuff
-    part-unstuff-start
-    part-unstuff-end
-    unstuff-requires
+    sub-size
+    sub-copy
+    part-copy-start
+    part-copy-end
+    copy-requires
+    shared-slice-read-t16
+    cast-t17
     same-length
     returns
     refuse-requires
