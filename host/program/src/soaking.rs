@@ -6,11 +6,12 @@ use crate::progress::Progress;
 use crate::words::thousands;
 use clap::Args;
 use soak::met::Met;
-use soak::{history, pairs};
+use soak::{history, packets, pairs};
 
-/// Call the box with random histories and compare every call with an independent machine
+/// Make random calls on the box and on packets, and compare every call with independent code
 ///
-/// Prints what the histories came across, and stops at the first difference with exit status 1.
+/// Prints what the histories and the packets came across, and stops at the first difference with exit
+/// status 1.
 #[derive(Args)]
 #[command(after_help = "\
 Example:
@@ -21,7 +22,7 @@ pub struct Soak {
     #[arg(value_parser = number::count, allow_negative_numbers = true)]
     calls: u64,
 
-    /// The first seed; the next histories have the next seeds. A failing one repeats its history
+    /// The first seed; the next histories and packets have the next seeds. A failing one repeats its own
     #[arg(long, value_name = "SEED", default_value_t = 1)]
     #[arg(value_parser = number::count, allow_negative_numbers = true)]
     seed: u64,
@@ -31,13 +32,12 @@ impl Soak {
     pub fn run(self, out: Out) -> Result<(), Failure> {
         let mut met = Met::default();
         let ran = self.soak(&mut met);
-        let counts = met.of_histories().into_iter().chain(met.of_pairs());
-        let calls = met.calls + met.pair_calls;
-        for (what, count) in counts {
+        let calls = met.all_calls();
+        for (what, count) in [met.of_histories(), met.of_pairs(), met.of_packets()].concat() {
             writeln!(out, "{}", line(&what, count, calls))?;
         }
         ran?;
-        writeln!(out, "{}", line("calls, all boxes agree", calls, calls))?;
+        writeln!(out, "{}", line("calls, all agree", calls, calls))?;
         Ok(())
     }
 
@@ -46,7 +46,8 @@ impl Soak {
         for seed in self.seed.. {
             history::run(seed, met)?;
             pairs::run(seed, met)?;
-            let done = met.calls + met.pair_calls;
+            packets::run(seed, met)?;
+            let done = met.all_calls();
             progress.done(done.min(self.calls));
             if done >= self.calls {
                 break;

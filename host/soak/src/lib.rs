@@ -3,14 +3,16 @@
 //! After every call all that they say, keep and leave in the lent memory is the same, and of a lent
 //! record every byte.
 //!
-//! `history` is that trial, `pairs` that of two boxes of which one has the tighter profile. Both
-//! are fixed by their seed. `met` counts what they came across: a trial that met nothing shows
-//! nothing. `alike` puts the independent machine's numbers into the library's records. `sessions` has
+//! `history` is that trial, `pairs` that of two boxes of which one has the tighter profile, and
+//! `packets` that of the RehaStim2's packets, read and written beside the independent codec. All are
+//! fixed by their seed. `met` counts what they came across: a trial that met nothing shows nothing.
+//! `alike` puts the independent machine's numbers into the library's records. `sessions` has
 //! histories of bytes and ticks alone, for programs that play them.
 
 pub mod alike;
 pub mod history;
 pub mod met;
+pub mod packets;
 pub mod pairs;
 pub mod sessions;
 
@@ -23,6 +25,8 @@ mod lent;
 mod numbers;
 mod pick;
 mod profiles;
+#[path = "../../tests/shared/random_packets.rs"]
+mod random_packets;
 mod three;
 
 pub use failure::Failure;

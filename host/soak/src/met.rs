@@ -1,5 +1,6 @@
 //! What the trials came across.
 
+use crate::packets::Counts;
 use crate::three::Call;
 use std::collections::BTreeMap;
 use yarrowbell::raw::{BoxRecord, Said};
@@ -11,7 +12,7 @@ const TRIPPED: u16 = 2;
 const COMMANDS: [&str; 4] = ["Init", "Update", "Stop", "Single"];
 const STATES: [&str; 3] = ["idle", "running", "tripped"];
 
-const ANSWERS: usize = Answer::ALL.len();
+pub(crate) const ANSWERS: usize = Answer::ALL.len();
 
 /// The answers that each call on a box can be given.
 const TO_MAKE: &[u8] = &[0, 11, 13];
@@ -58,9 +59,15 @@ pub struct Met {
     pub pair_rejoinings: u64,
     pub pair_pulses: u64,
     pub pair_lax_pulses: u64,
+    pub(crate) packets: Counts,
 }
 
 impl Met {
+    /// The calls of all trials.
+    pub fn all_calls(&self) -> u64 {
+        self.calls + self.pair_calls + self.packets.calls
+    }
+
     pub fn made(&mut self, answer: u32) {
         self.calls += 1;
         self.made[answer as usize] += 1;
@@ -214,6 +221,11 @@ impl Met {
         ];
         lines.map(|(what, count)| (what.to_owned(), count)).into()
     }
+
+    /// The same of packets.
+    pub fn of_packets(&self) -> Vec<(String, u64)> {
+        self.packets.lines()
+    }
 }
 
 /// The answer by its name.
@@ -221,7 +233,8 @@ pub(crate) fn answered(said: &Said) -> Answer {
     Answer::from_number(said.answer).expect("all boxes answer by the numbers of document 01")
 }
 
-fn told(what: &str, answers: &[u8], counts: &[u64; ANSWERS]) -> Vec<(String, u64)> {
+/// What was answered by each of these numbers, with how often it was.
+pub(crate) fn told(what: &str, answers: &[u8], counts: &[u64; ANSWERS]) -> Vec<(String, u64)> {
     let line = |&answer: &u8| (format!("{what} {answer}"), counts[usize::from(answer)]);
     answers.iter().map(line).collect()
 }

@@ -1,7 +1,7 @@
 //! The soak for the gate: long enough to meet everything that there is to meet.
 
 use soak::met::Met;
-use soak::{history, pairs};
+use soak::{history, packets, pairs};
 
 /// How often each thing must have been met at least.
 const OFTEN: u64 = 40;
@@ -32,4 +32,15 @@ fn profiles_that_are_nowhere_looser() {
         pairs::run(seed, &mut met).unwrap_or_else(|failure| panic!("{failure}"));
     }
     all_met(met.of_pairs(), 1_000);
+}
+
+#[test]
+fn packets_of_the_rehastim2() {
+    let mut met = Met::default();
+    let mut seeds = 4_000_000..;
+    while met.all_calls() < 400_000 {
+        let seed = seeds.next().expect("there are seeds enough");
+        packets::run(seed, &mut met).unwrap_or_else(|failure| panic!("{failure}"));
+    }
+    all_met(met.of_packets(), OFTEN);
 }

@@ -3,9 +3,9 @@
 use crate::agree;
 use crate::random_packets::{byte, bytes, command, damaged, packet};
 use crate::seeded::seeded;
-use independent::rehastim2::checksum;
 use rand::rngs::SmallRng;
 use rand::Rng;
+use soak::packets::covered;
 
 /// How often each answer was given.
 fn counted(seeds: std::ops::Range<u64>, mut case: impl FnMut(&mut SmallRng) -> u8) -> [u32; 17] {
@@ -57,12 +57,7 @@ fn streams() {
 /// Any bytes behind a header with their right checksum and their right length.
 #[test]
 fn any_bytes_covered() {
-    let answers = counted(3_000_000..3_200_000, |rng| {
-        let longest = [4, 20, 300][rng.gen_range(0..3)];
-        let covered = bytes(rng, longest);
-        let header = [0xF0, 0x81, checksum(&covered) ^ 0x55, 0x81, covered.len() as u8 ^ 0x55];
-        agree::read(&[&header, &covered[..], &[0x0F]].concat(), room(rng)).answer
-    });
+    let answers = counted(3_000_000..3_200_000, |rng| agree::read(&covered(rng), room(rng)).answer);
     assert!([0, 1, 3, 4].iter().all(|&answer| answers[answer] > 2_000), "{answers:?}");
 }
 
