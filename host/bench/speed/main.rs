@@ -1,7 +1,8 @@
 //! The library against plain Rust in one run: `yarrowbell bench`.
 //!
 //! Both are called as a Rust program calls them, the library by its safe calls and the plain one,
-//! `independent::plain`, by its entry points, which are never inlined. No time is judged here, the
+//! `independent::plain`, by its entry points, which are never inlined. Packets are measured by a third
+//! side too, the independent codec that is near to the paper and slow. No time is judged here, the
 //! tables are for people.
 
 mod boxes;
@@ -9,6 +10,9 @@ mod fair;
 mod frames;
 mod meter;
 mod names;
+mod packets;
+#[path = "../../tests/shared/random_packets.rs"]
+mod random_packets;
 mod ring;
 #[path = "../../tests/shared/seeded.rs"]
 mod seeded;
@@ -24,6 +28,7 @@ fn main() {
     let mut meter = Meter::new();
     let mut tables = boxes::tables(&mut meter);
     tables.extend(frames::tables(&mut meter));
+    tables.extend(packets::tables(&mut meter));
     tables.extend(ring::tables(&mut meter));
     table::print(&tables);
     meter.check_names();

@@ -10,8 +10,9 @@ pub struct Group {
 
 const BOX: &[&str] = &["in place", "by value", "plain"];
 const BOTH: &[&str] = &["library", "plain"];
+const CODECS: &[&str] = &["library", "plain", "independent"];
 
-pub const GROUPS: [Group; 9] = [
+pub const GROUPS: [Group; 11] = [
     Group {
         name: "tick",
         sides: BOX,
@@ -58,6 +59,40 @@ pub const GROUPS: [Group; 9] = [
         name: "frame write",
         sides: BOTH,
         calls: &["Init", "Update of 1 channel", "Update of 8 channels", "Stop", "Single"],
+    },
+    Group {
+        name: "packet read",
+        sides: CODECS,
+        calls: &[
+            "Watchdog",
+            "Init",
+            "GetStimulationModeAck",
+            "InitChannelListMode",
+            "other, no data",
+            "other, 15 bytes of data",
+            "other, 30 bytes of data",
+            "other, 60 bytes of data",
+            "other, 60 bytes of data, all stuffed",
+            "other, 60 bytes of data, behind 1000 of garbage",
+            "wrong checksum, 60 bytes of data",
+            "wrong checksum, 1000 bytes of data",
+            "wrong checksum, 10000 bytes of data",
+            "no packet in 1000 bytes",
+            "no packet in 10000 bytes",
+            "no packet in 10000 bytes, all starts",
+        ],
+    },
+    Group {
+        name: "packet write",
+        sides: CODECS,
+        calls: &[
+            "Watchdog",
+            "Init",
+            "GetStimulationModeAck",
+            "InitChannelListMode",
+            "InitChannelListMode, 5 bytes stuffed",
+            "InitChannelListModeAck",
+        ],
     },
     Group {
         name: "ring push",

@@ -6,14 +6,20 @@ const LEGEND: &str = "
 Nanoseconds for one call: the least of three medians, the sides measured in turn. Ratio: plain /
 library, so that at 1.00 or more the library is no slower. Times real time: how many such calls fit
 in the time that one has, 100,000 ns for a tick or a readout, 86,806 ns for a byte or each byte of a
-frame. Mixed: the three kinds of record in a random order; mostly pulses: each 16th record is an
-answer.";
+frame, 23,872 ns for each byte of a packet or of what stands where one is looked for: at 460,800 baud
+a byte has 11 bits, with its start, its parity and its stop. Independent: a codec by a grammar, near to
+the paper and not made to be fast. Mixed: the three kinds of record in a random order; mostly pulses:
+each 16th record is an answer.";
 
 /// The nanoseconds from one tick to the next: there are 10,000 a second.
 pub const TICK: f64 = 1e9 / 10_000.0;
 
 /// The nanoseconds from one byte to the next: a line of 115,200 baud has 11,520 a second.
 pub const BYTE: f64 = 1e9 / 11_520.0;
+
+/// The nanoseconds from one byte of a packet to the next: 11 bits, 8 of data with a start, an even
+/// parity and a stop, at 460,800 baud (source 000, table 4).
+pub const PACKET_BYTE: f64 = 11.0 * 1e9 / 460_800.0;
 
 pub struct Table {
     pub title: &'static str,
@@ -52,6 +58,12 @@ impl Row {
     /// A row of calls that have this time to be done in, in nanoseconds.
     pub fn timed(what: impl Into<String>, pair: Pair, time: f64) -> Row {
         Row { further: vec![whole(time / pair.library)], ..Row::new(what, pair) }
+    }
+
+    /// The row with the nanoseconds of a further side straight behind the ratio.
+    pub fn beside(mut self, nanoseconds: f64) -> Row {
+        self.further.insert(0, time(nanoseconds));
+        self
     }
 }
 

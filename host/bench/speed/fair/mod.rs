@@ -1,17 +1,20 @@
-//! Both sides must do the same work before their times are compared.
+//! All sides must do the same work before their times are compared.
 
 mod boxes;
 mod frames;
 mod histories;
+mod packets;
 mod random;
 mod rings;
 mod same;
 
 pub use boxes::{end, read_out};
+pub use packets::{packet_read, packet_written};
 
-/// Stops at the first difference between library and plain side.
+/// Stops at the first difference between the sides.
 pub fn check() {
     rings::check();
     frames::check();
+    packets::check();
     histories::check();
 }

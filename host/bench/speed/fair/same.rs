@@ -1,10 +1,22 @@
-//! Stops where the two sides differ.
+//! Stops where the sides differ.
 
 use std::fmt::Debug;
 
 pub fn same<T: PartialEq + Debug>(what: &str, told: &dyn Debug, library: &T, plain: &T) {
     if library != plain {
         differ(what, told, &format!("library {library:?}\nplain {plain:?}"));
+    }
+}
+
+/// The same with the independent codec beside the two.
+pub fn same_three<T: PartialEq + Debug>(
+    what: &str,
+    told: &dyn Debug,
+    [library, plain, independent]: &[T; 3],
+) {
+    same(what, told, library, plain);
+    if library != independent {
+        differ(what, told, &format!("library {library:?}\nindependent {independent:?}"));
     }
 }
 
@@ -19,5 +31,5 @@ pub fn same_all<T: PartialEq + Debug>(what: &str, told: &dyn Debug, library: &[T
 }
 
 fn differ(what: &str, told: &dyn Debug, found: &str) -> ! {
-    panic!("no fair comparison: library and plain side differ in {what}\n{told:?}\n{found}");
+    panic!("no fair comparison: the sides differ in {what}\n{told:?}\n{found}");
 }

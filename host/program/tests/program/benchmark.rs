@@ -22,6 +22,8 @@ fn no_such_measurement() {
             "box readout",
             "frame read",
             "frame write",
+            "packet read",
+            "packet write",
             "ring split",
             "ring of 64 records",
             "ring push",

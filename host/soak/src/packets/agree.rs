@@ -121,7 +121,7 @@ pub fn write(packet: u8, command: Command, room: usize) -> Result<Written, Strin
         Ok(bytes) => Wrote { answer: 0, used: bytes.len() as u8 },
         Err(answer) => Wrote { answer: *answer, used: 0 },
     };
-    let call = |out: &mut [u8]| exported(packet, command, out).unwrap_or(report);
+    let call = |out: &mut [u8]| alike::write(packet, command, out).unwrap_or(report);
     lent.same("the export", true, report, call)?;
 
     let wrapped = match &expected {
@@ -133,27 +133,6 @@ pub fn write(packet: u8, command: Command, room: usize) -> Result<Written, Strin
         rehastim2::write(packet, &command, out).map_err(NotWritten::answer)
     })?;
     Ok(expected)
-}
-
-/// Writes by the command's export; a command that is not carried has none, and changes nothing here.
-fn exported(packet: u8, command: Command, out: &mut [u8]) -> Option<Wrote> {
-    Some(match command {
-        Command::Init { version } => calls::write_init(packet, version, out),
-        Command::InitAck { result } => calls::write_init_ack(packet, result, out),
-        Command::UnknownCommand { echo } => calls::write_unknown_command(packet, echo, out),
-        Command::Watchdog => calls::write_watchdog(packet, out),
-        Command::GetStimulationMode => calls::write_get_stimulation_mode(packet, out),
-        Command::GetStimulationModeAck { result, mode } => {
-            calls::write_get_stimulation_mode_ack(packet, result, mode, out)
-        }
-        Command::InitChannelListMode(list) => {
-            calls::write_init_channel_list_mode(packet, alike::channel_list(&list), out)
-        }
-        Command::InitChannelListModeAck { result } => {
-            calls::write_init_channel_list_mode_ack(packet, result, out)
-        }
-        Command::Other { .. } => return None,
-    })
 }
 
 fn known(answer: u8) -> Answer {

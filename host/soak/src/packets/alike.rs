@@ -1,21 +1,24 @@
-//! The independent codec's packets as the library has them.
+//! The independent codec's packets in the library's records and calls.
 
 use independent::rehastim2::{self as independently, Command, Reading};
-use yarrowbell::raw::ReadPacket;
+use yarrowbell::calls::rehastim2 as calls;
+use yarrowbell::raw::{ReadPacket, Wrote};
 use yarrowbell::rehastim2::{self, ChannelList, ErrorCode, StimulationMode};
 
 /// What the export for any command reports.
 pub fn report(reading: &Reading) -> ReadPacket {
-    let mut all = ReadPacket {
+    let all = ReadPacket {
         used: reading.used,
         answer: reading.answer,
         packet: reading.packet,
         size: reading.data.len() as u8,
         ..ReadPacket::default()
     };
-    let Some(command) = reading.command else {
-        return all;
-    };
+    reading.command.map_or(all, |command| with_command(all, command))
+}
+
+/// The report of a packet with this command, given the report without it.
+pub fn with_command(mut all: ReadPacket, command: Command) -> ReadPacket {
     all.command = command.number();
     match command {
         Command::Init { version } => all.version = version,
@@ -70,4 +73,25 @@ pub fn channel_list(list: &independently::ChannelList) -> ChannelList {
         main: list.main_stimulation_interval,
         execution: list.channel_execution,
     }
+}
+
+/// Writes by the command's export; a command that is not carried has none, and changes nothing here.
+pub fn write(packet: u8, command: Command, out: &mut [u8]) -> Option<Wrote> {
+    Some(match command {
+        Command::Init { version } => calls::write_init(packet, version, out),
+        Command::InitAck { result } => calls::write_init_ack(packet, result, out),
+        Command::UnknownCommand { echo } => calls::write_unknown_command(packet, echo, out),
+        Command::Watchdog => calls::write_watchdog(packet, out),
+        Command::GetStimulationMode => calls::write_get_stimulation_mode(packet, out),
+        Command::GetStimulationModeAck { result, mode } => {
+            calls::write_get_stimulation_mode_ack(packet, result, mode, out)
+        }
+        Command::InitChannelListMode(list) => {
+            calls::write_init_channel_list_mode(packet, channel_list(&list), out)
+        }
+        Command::InitChannelListModeAck { result } => {
+            calls::write_init_channel_list_mode_ack(packet, result, out)
+        }
+        Command::Other { .. } => return None,
+    })
 }

@@ -1,7 +1,7 @@
 //! Packets of the RehaStim2: rows of bytes read packet by packet, and commands written.
 //!
 //! `agree` compares one call with the independent codec, `lent` has its output, `alike` the codec's
-//! packets as the library has them, `row` the bytes, and `counts` what was met.
+//! packets in the library's records and calls, `row` the bytes, and `counts` what was met.
 
 pub mod agree;
 pub mod alike;
