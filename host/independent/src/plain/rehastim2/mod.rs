@@ -1,4 +1,4 @@
-//! The packets of source 000 by words of eight bytes and tables.
+//! The packets of source 000, searched by words of eight bytes, the checksum by a table.
 
 mod checksum;
 mod framing;
