@@ -6,7 +6,7 @@ use crate::seeded::seeded;
 use independent::plain::rehastim2 as plain;
 use independent::rehastim2::{self as independently, Command};
 use rand::Rng;
-use soak::packets::alike;
+use soak::packets::{alike, covered};
 use yarrowbell::calls::rehastim2 as calls;
 use yarrowbell::raw::{ReadPacket, Wrote};
 use yarrowbell::rehastim2::{LONGEST_DATA, LONGEST_WRITTEN};
@@ -18,6 +18,7 @@ pub fn check() {
         read(&whole, rng.gen_range(0..=LONGEST_DATA));
         packet_read(&whole);
         packet_read(&damaged(rng, whole));
+        packet_read(&covered(rng));
 
         let (number, command) = (byte(rng, 5), command(rng));
         let room = rng.gen_range(0..=LONGEST_WRITTEN);
@@ -29,7 +30,7 @@ pub fn check() {
     });
     println!(
         "library, plain and independent codec agree on {CASES} random packets, \
-         each whole and damaged, read and written"
+         read whole, damaged and around any bytes, and written"
     );
 }
 
