@@ -3,10 +3,11 @@ use mathlib.Core.Path.{_≡_, refl, sym, ap, _∙_}
 use mathlib.Core.Bool.{Bool, true, false, not, _&&_, _||_, false≢true}
 use mathlib.Core.List.{List, [], _∷_, _++_}
 use Prim.Native.Nat.{ℕ, suc, _+_, _-_, _%_, _≤_, _<_}
+use native.Mathlib.Numerals.{add-one}
 use native.Mathlib.Omega.{arith}
 use lib.Dec.{eqb, leb}
-use lib.ListN.{length, take, drop, length-drop, take-append-drop}
-use lib.Seq.{drop-drop, length-take-le}
+use lib.ListN.{length, take, drop, getD, length-drop, take-append-drop}
+use lib.Seq.{drop-cons, drop-drop, length-take-le}
 use borrow.Author.Tests.{leb-true, not-true}
 use Rattle.stuffing.specs.Stuffing.{startByte, stopByte, stuffingByte, special, anySpecial}
 use Rattle.stuffing.proofs.Tests.{both}
@@ -32,6 +33,14 @@ passed prev body at b l e f = by (eqb prev stuffingByte) refl
     by true p = rw p
     by false p = rw (p, e, f)
 
+pub scan-unmarked : (prev body : ℕ) (s : List ℕ) (at : ℕ) → at < length s → (eqb (getD s at 0) startByte || eqb (getD s at 0) stopByte) ≡ false
+    → scan prev body at (drop at s) ≡ scan (getD s at 0) body (at + 1) (drop (at + 1) s)
+scan-unmarked prev body s at h e =
+    let b = getD s at 0 in
+    let f = neither (eqb b startByte) (eqb b stopByte) e in
+    ap (scan prev body at) (drop-cons s at 0 h) ∙ passed prev body at b (drop (suc at) s) (f .0) (f .1)
+    ∙ ap (λ (n : ℕ). scan b body (at + 1) (drop n s)) (sym (add-one at))
+
 none-of : (b : ℕ) → special b ≡ false → (eqb b startByte ≡ false) × (eqb b stopByte ≡ false) × (eqb b stuffingByte ≡ false)
 unfolding special
 none-of b e =
@@ -53,14 +62,11 @@ over : (prev body at : ℕ) (xs rest : List ℕ) → 0 < length xs → anySpecia
 over prev body at [] rest h e = absurd (omega arith)
 over prev body at (b ∷ xs) rest h e = run prev body at b xs rest e
 
-pub there : (at n : ℕ) → (eqb (at % 16) 0 && leb 16 (n - at)) ≡ true → 16 ≤ n - at
-there at n e = leb-true 16 (n - at) (both (eqb (at % 16) 0) (leb 16 (n - at)) e .1)
-
 parts : (s : List ℕ) (at : ℕ) → quiet s at ≡ true → (16 ≤ length s - at) × (anySpecial (take 16 (drop at s)) ≡ false)
 unfolding quiet
 parts s at e =
     let t = both (eqb (at % 16) 0 && leb 16 (length s - at)) (not (anySpecial (take 16 (drop at s)))) e in
-    (there at (length s) (t .0), not-true (anySpecial (take 16 (drop at s))) (t .1))
+    (leb-true 16 (length s - at) (both (eqb (at % 16) 0) (leb 16 (length s - at)) (t .0) .1), not-true (anySpecial (take 16 (drop at s))) (t .1))
 
 pub within : (s : List ℕ) (at : ℕ) → quiet s at ≡ true → at + 16 ≤ length s
 within s at e = omega (arith, parts s at e .0)

@@ -5,10 +5,11 @@ use stuffing::STOP;
 use stuffing::STUFFING;
 ghost use mathlib.Core.Path.{_≡_};
 ghost use Prim.Native.Nat.{_+_, _≤_};
-ghost use lib.Dec.{leb};
+ghost use mathlib.Core.Bool.{_||_};
+ghost use lib.Dec.{eqb, leb};
 ghost use lib.ListN.{length};
 ghost use lib.Seq.{sets};
-ghost use Rattle.stuffing.specs.Stuffing.{pair, stuffedByte, stuffed, pairs};
+ghost use Rattle.stuffing.specs.Stuffing.{startByte, stopByte, pair, stuffedByte, stuffed, pairs};
 ghost use Rattle.framing.specs.Packet.{packetOf, sizeWritten, writtenTo};
 ghost use Rattle.framing.specs.Scan.{opens, closes, scan};
 ghost use Rattle.framing.specs.Blocks.{quiet};
@@ -17,6 +18,12 @@ ghost use Rattle.framing.specs.Blocks.{quiet};
 pub struct Found {
     pub body: usize,
     pub used: usize,
+}
+
+fn is_mark(b: u8) -> bool
+    ensures { λ r. ⌜ r ≡ (eqb b startByte || eqb b stopByte) ⌝ }
+{
+    (b == START) | (b == STOP)
 }
 
 fn is_close(prev: u8, body: usize, b: u8) -> bool
@@ -39,8 +46,10 @@ fn is_quiet(s: &[u8], at: usize) -> bool
     requires { ⌜ at ≤ length (now s) ⌝ }
     ensures { λ r. ⌜ r ≡ quiet (now (s .entry)) at ⌝ }
 {
-    if (at % BLOCK == 0) & (BLOCK <= s.len() - at) {
-        return !stuffing::any_special(&s[at..at + BLOCK]);
+    if at % BLOCK == 0 {
+        if BLOCK <= s.len() - at {
+            return !stuffing::any_special(&s[at..at + BLOCK]);
+        }
     }
     false
 }
@@ -58,11 +67,13 @@ pub fn find(s: &[u8]) -> Found
             at += BLOCK;
         } else {
             let b = s[at];
-            if is_close(prev, body, b) {
-                return Found { body, used: at + 1 };
-            }
-            if is_open(prev, b) {
-                body = at + 1;
+            if is_mark(b) {
+                if is_close(prev, body, b) {
+                    return Found { body, used: at + 1 };
+                }
+                if is_open(prev, b) {
+                    body = at + 1;
+                }
             }
             prev = b;
             at += 1;

@@ -22,17 +22,27 @@ pub fn is_special(b: u8) -> bool
     (b == START) | ((b == STOP) | (b == STUFFING))
 }
 
+// A byte that tells it: bytes are joined many at a time.
+fn mark(b: u8) -> u8
+    ensures { λ r. ⌜ r ≡ cond (special b) 1 0 ⌝ }
+{
+    if is_special(b) {
+        return 1;
+    }
+    0
+}
+
 // Is any of these stuffed?
 pub fn any_special(bytes: &[u8]) -> bool
     ensures { λ r. ⌜ r ≡ anySpecial (now (bytes .entry)) ⌝ }
 {
-    let mut any = false;
+    let mut marks = 0;
     let mut i = 0;
     while i < bytes.len() {
-        any = any | is_special(bytes[i]);
+        marks = marks | mark(bytes[i]);
         i += 1;
     }
-    any
+    0 < marks
 }
 
 // How many bytes b becomes.

@@ -1,12 +1,12 @@
 -- `framing::find` meets its contract. The loop's invariant: what the scan finds from here on is what it finds in all. Assumes nothing.
 use mathlib.Core.Path.{_≡_, refl, sym, ap, _∙_}
 use mathlib.Core.Logic.{⊎-elim}
-use Prim.Native.Nat.{ℕ, _≤_, _-_, _+_}
+use Prim.Native.Nat.{ℕ, _≤_, _<_, _-_, _+_}
 use borrow.Author.Needs.{needs}
 use lib.ListN.{length, drop, getD}
 use Rattle.framing.specs.Scan.{opened, scan}
 use Rattle.framing.proofs.Finding.{opened-yes, opened-no, scan-found, scan-on, scan-end}
-use Rattle.framing.proofs.Blocks.{within, quiet-turn}
+use Rattle.framing.proofs.Blocks.{scan-unmarked, within, quiet-turn}
 use Rattle.framing.proofs.find.Statement.{statement}
 use Rattle.framing.proofs.find.Tie as tie
 
@@ -38,17 +38,20 @@ loop-again c =
 shared-slice-read-b : tie.Need-shared-slice-read-b Inv-loop μ-loop
 shared-slice-read-b c = search needs
 
+is-mark-requires : tie.Need-is-mark-requires Inv-loop μ-loop
+is-mark-requires c κs = tt
+
 is-close-requires : tie.Need-is-close-requires Inv-loop μ-loop
 is-close-requires c κs = tt
 
-add-t12 : tie.Need-add-t12 Inv-loop μ-loop
-add-t12 c = search needs
+add-t13 : tie.Need-add-t13 Inv-loop μ-loop
+add-t13 c = search needs
 
 returns : tie.Need-returns Inv-loop μ-loop
 returns c =
-    let l = c .before .before .before .before .before .before .loop in
-    let s = c .before .before .before .before .before .before .before .before .args .s .now in
-    sym (scan-found (l .prev) (l .body) s (l .at) (search needs) (sym (c .before .is-close .ensures) ∙ c .if2 .taken)) ∙ l .inv .1
+    let l = c .before .before .before .before .before .before .before .before .loop in
+    let s = c .before .before .before .before .before .before .before .before .before .before .args .s .now in
+    sym (scan-found (l .prev) (l .body) s (l .at) (search needs) (sym (c .before .is-close .ensures) ∙ c .if3 .taken)) ∙ l .inv .1
 
 is-open-requires : tie.Need-is-open-requires Inv-loop μ-loop
 is-open-requires c κs = tt
@@ -64,15 +67,23 @@ loop-less-2 c = search needs
 
 loop-again-2 : tie.Need-loop-again-2 Inv-loop μ-loop
 loop-again-2 c =
-    let l = c .before .before .before .before .before .before .before .before .loop in
-    let s = c .before .before .before .before .before .before .before .before .before .before .args .s .now in
+    let l = c .before .before .before .before .before .before .loop in
+    let s = c .before .before .before .before .before .before .before .before .args .s .now in
     let b = getD s (l .at) 0 in
-    let o = sym (c .before .is-open .ensures) in
-    let body : c .if3 .body ≡ opened (l .prev) (l .body) b (l .at) =
-    ⊎-elim (λ w. w .1 ∙ opened-yes (l .prev) (l .body) b (l .at) (o ∙ w .0 .taken)) (λ w. w .1 ∙ opened-no (l .prev) (l .body) b (l .at) (o ∙ w .0 .left)) (c .if3 .came) in (
+    let h : l .at < length s = search needs in (
       search needs,
-      ap (λ (n : ℕ). scan b n (l .at + 1) (drop (l .at + 1) s)) body
-          ∙ sym (scan-on (l .prev) (l .body) s (l .at) (search needs) (sym (c .before .before .before .is-close .ensures) ∙ c .before .before .if2 .left)) ∙ l .inv .1,
+      ⊎-elim
+          (λ w.
+          ap (λ (n : ℕ). scan b n (l .at + 1) (drop (l .at + 1) s)) (w .5 ∙ opened-yes (l .prev) (l .body) b (l .at) (sym (w .3 .ensures) ∙ w .4 .taken))
+          ∙ sym (scan-on (l .prev) (l .body) s (l .at) h (sym (w .1 .ensures) ∙ w .2 .left)) ∙ l .inv .1)
+          (⊎-elim
+          (λ w.
+          ap (λ (n : ℕ). scan b n (l .at + 1) (drop (l .at + 1) s)) (w .5 ∙ opened-no (l .prev) (l .body) b (l .at) (sym (w .3 .ensures) ∙ w .4 .left))
+          ∙ sym (scan-on (l .prev) (l .body) s (l .at) h (sym (w .1 .ensures) ∙ w .2 .left)) ∙ l .inv .1)
+          (λ w.
+          ap (λ (n : ℕ). scan b n (l .at + 1) (drop (l .at + 1) s)) (w .1)
+          ∙ sym (scan-unmarked (l .prev) (l .body) s (l .at) h (sym (c .before .is-mark .ensures) ∙ w .0 .left)) ∙ l .inv .1))
+          (c .if2 .came),
     )
 
 returns-2 : tie.Need-returns-2 Inv-loop μ-loop
@@ -92,8 +103,9 @@ find-spec =
     loop-less
     loop-again
     shared-slice-read-b
+    is-mark-requires
     is-close-requires
-    add-t12
+    add-t13
     returns
     is-open-requires
     add-body

@@ -1,14 +1,12 @@
 -- `framing::is_quiet` meets its contract. Assumes nothing.
-use mathlib.Core.Path.{_≡_, refl, sym, ap, _∙_}
-use mathlib.Core.Bool.{Bool, true, false, not, _&&_}
-use mathlib.Core.List.{List}
-use Prim.Native.Nat.{ℕ, _+_, _-_, _%_, _≤_}
+use mathlib.Core.Path.{_≡_, ap, _∙_}
+use mathlib.Core.Bool.{not}
+use Prim.Native.Nat.{ℕ, _+_, _-_, _%_}
 use native.Mathlib.Omega.{arith}
-use lib.Dec.{eqb, leb}
+use borrow.Author.Tests.{eq-eqb, ne-eqb, le-leb, lt-leb}
 use lib.ListN.{length, take, drop}
 use Rattle.stuffing.specs.Stuffing.{anySpecial}
 use Rattle.framing.specs.Blocks.{quiet}
-use Rattle.framing.proofs.Blocks.{there}
 use borrow.Author.Needs.{needs}
 use Rattle.framing.proofs.is_quiet.Statement.{statement}
 use Rattle.framing.proofs.is_quiet.Tie as tie
@@ -16,8 +14,8 @@ use Rattle.framing.proofs.is_quiet.Reads as reads
 use Rattle.framing.proofs.is_quiet.Lts as lts
 use Rattle.stuffing.proofs.any_special.Reads as any-special-reads
 
-sub-if1 : tie.Need-sub-if1
-sub-if1 c = search needs
+sub-if2 : tie.Need-sub-if2
+sub-if2 c = search needs
 
 add-any-special : tie.Need-add-any-special
 add-any-special c = search needs
@@ -29,9 +27,7 @@ part-any-special-start : tie.Need-part-any-special-start
 part-any-special-start c = search needs
 
 part-any-special-end : tie.Need-part-any-special-end
-part-any-special-end c =
-    let a = c .before .before .args in
-    omega (arith, there (a .at) (length (a .s .now)) (c .if1 .taken))
+part-any-special-end c = search needs
 
 any-special-requires : tie.Need-any-special-requires
 any-special-requires c κs = search needs
@@ -39,24 +35,32 @@ any-special-requires c κs = search needs
 returns : tie.Need-returns
 unfolding quiet
 returns c =
-    let a = c .before .before .before .before .args in
+    let a = c .before .before .before .before .before .args in
     let s = a .s .now in
     let n : a .at + 16 - a .at ≡ 16 = omega arith in
-    rw (c .before .before .if1 .taken) (ap not (c .any-special .ensures ∙ ap (λ (k : ℕ). anySpecial (take k (drop (a .at) s))) n))
+    rw (eq-eqb (a .at % 16) 0 (c .before .before .before .if1 .taken), le-leb 16 (length s - a .at) (c .before .before .if2 .taken))
+    (ap not (c .any-special .ensures ∙ ap (λ (k : ℕ). anySpecial (take k (drop (a .at) s))) n))
 
 returns-2 : tie.Need-returns-2
 unfolding quiet
-returns-2 c = rw (c .if1 .left)
+returns-2 c =
+    let a = c .before .before .before .args in
+    rw (eq-eqb (a .at % 16) 0 (c .before .if1 .taken), lt-leb 16 (length (a .s .now) - a .at) (c .if2 .left))
+
+returns-3 : tie.Need-returns-3
+unfolding quiet
+returns-3 c = rw (ne-eqb (c .before .before .args .at % 16) 0 (c .if1 .left))
 
 pub is-quiet-spec : {M : Type 1} → statement M
 is-quiet-spec =
     tie.close
     (tie.spec
-    sub-if1
+    sub-if2
     add-any-special
     sub-any-special
     part-any-special-start
     part-any-special-end
     any-special-requires
     returns
-    returns-2)
+    returns-2
+    returns-3)

@@ -1,28 +1,39 @@
--- `stuffing::any_special` meets its contract. The loop's invariant: one of the bytes passed, or of those left, is one of all. Assumes nothing.
+-- `stuffing::any_special` meets its contract. The loop's invariant: one of the bytes passed, or of those left, is one of all.
+-- Assumes nothing.
 use mathlib.Core.Path.{_≡_, refl, sym, ap, _∙_}
-use mathlib.Core.Bool.{Bool, _||_, or-assoc}
-use Prim.Native.Nat.{_≤_, _-_, _+_}
+use mathlib.Core.Bool.{Bool, true, false, cond, _||_, or-assoc}
+use Prim.Native.Nat.{ℕ, zero, suc, _≤_, _-_, _+_}
+use native.Mathlib.Omega.{arith}
 use borrow.Author.Needs.{needs}
+use lib.Bits.{bitOr}
+use lib.Dec.{ltb}
 use lib.ListN.{length, drop, getD}
 use Rattle.stuffing.specs.Stuffing.{anySpecial, special}
 use Rattle.stuffing.proofs.Laws.{any-on, any-end}
 use Rattle.stuffing.proofs.any_special.Statement.{statement}
 use Rattle.stuffing.proofs.any_special.Tie as tie
 
+joined : (n : ℕ) → n ≤ 1 → (t : Bool) → (ltb 0 (bitOr n (cond t 1 0)) ≡ (ltb 0 n || t)) × (bitOr n (cond t 1 0) ≤ 1)
+joined zero h true = (refl, omega arith)
+joined zero h false = (refl, omega arith)
+joined (suc zero) h true = (refl, omega arith)
+joined (suc zero) h false = (refl, omega arith)
+joined (suc (suc n)) h t = absurd (omega arith)
+
 abbrev Inv-loop : tie.InvT-loop
-Inv-loop bytes any₀ i₀ any i = (i ≤ length bytes) × ((any || anySpecial (drop i bytes)) ≡ anySpecial bytes)
+Inv-loop bytes marks₀ i₀ marks i = (i ≤ length bytes) × (marks ≤ 1) × ((ltb 0 marks || anySpecial (drop i bytes)) ≡ anySpecial bytes)
 
 abbrev μ-loop : tie.MeasureT-loop
-μ-loop bytes any₀ i₀ any i = length bytes - i
+μ-loop bytes marks₀ i₀ marks i = length bytes - i
 
 loop-holds : tie.Need-loop-holds Inv-loop μ-loop
-loop-holds c = (search needs, refl)
+loop-holds c = (search needs, omega arith, refl)
 
-shared-slice-read-is-special : tie.Need-shared-slice-read-is-special Inv-loop μ-loop
-shared-slice-read-is-special c = search needs
+shared-slice-read-mark : tie.Need-shared-slice-read-mark Inv-loop μ-loop
+shared-slice-read-mark c = search needs
 
-is-special-requires : tie.Need-is-special-requires Inv-loop μ-loop
-is-special-requires c κs = tt
+mark-requires : tie.Need-mark-requires Inv-loop μ-loop
+mark-requires c κs = tt
 
 add-i : tie.Need-add-i Inv-loop μ-loop
 add-i c = search needs
@@ -33,17 +44,20 @@ loop-less c = search needs
 loop-again : tie.Need-loop-again Inv-loop μ-loop
 loop-again c =
     let l = c .before .before .before .loop in
-    let s = c .before .before .before .before .before .args .bytes .now in (
+    let s = c .before .before .before .before .before .args .bytes .now in
+    let t = special (getD s (l .i) 0) in
+    let m = joined (l .marks) (l .inv .1) t in
+    rw (c .mark .ensures) (
       search needs,
-      or-assoc (l .any) (c .is-special .result) (anySpecial (drop (l .i + 1) s))
-          ∙ ap (λ (t : Bool). l .any || t) (ap (λ (t : Bool). t || anySpecial (drop (l .i + 1) s)) (c .is-special .ensures) ∙ sym (any-on s (l .i) (search needs)))
-          ∙ l .inv .1,
+      m .1,
+      ap (λ (u : Bool). u || anySpecial (drop (l .i + 1) s)) (m .0) ∙ or-assoc (ltb 0 (l .marks)) t (anySpecial (drop (l .i + 1) s))
+          ∙ ap (λ (u : Bool). ltb 0 (l .marks) || u) (sym (any-on s (l .i) (search needs))) ∙ l .inv .2,
     )
 
 returns : tie.Need-returns Inv-loop μ-loop
 returns c =
     let l = c .before .loop in
-    any-end (l .any) (c .before .before .before .args .bytes .now) (l .i) (c .loop-test .left) ∙ l .inv .1
+    any-end (ltb 0 (l .marks)) (c .before .before .before .args .bytes .now) (l .i) (c .loop-test .left) ∙ l .inv .2
 
 pub any-special-spec : {M : Type 1} → statement M
 any-special-spec =
@@ -52,8 +66,8 @@ any-special-spec =
     Inv-loop
     μ-loop
     loop-holds
-    shared-slice-read-is-special
-    is-special-requires
+    shared-slice-read-mark
+    mark-requires
     add-i
     loop-less
     loop-again
