@@ -1,6 +1,6 @@
 -- `crc::check8` meets its contract. The loop's invariant: the check of the bytes left, from q, is the check of all. Assumes nothing.
 use mathlib.Core.Path.{_≡_, refl, sym, ap, subst, _∙_}
-use Prim.Native.Nat.{ℕ, _≤_, _<_, _-_, _+_}
+use Prim.Native.Nat.{ℕ, _≤_, _<_, _-_, _+_, _^_}
 use borrow.Author.Needs.{needs}
 use native.Mathlib.Omega.{arith}
 use lib.Bits.{xor-lt}
@@ -9,6 +9,9 @@ use Rattle.crc.specs.Crc.{crc}
 use Rattle.crc.proofs.Laws.{looked-up8, byte-lt8, crc-turn, crc-end}
 use Rattle.crc.proofs.check8.Statement.{statement}
 use Rattle.crc.proofs.check8.Tie as tie
+
+widened : {n : ℕ} → n < 256 → n < 2 ^ 64
+widened h = omega arith
 
 abbrev Inv-loop : tie.InvT-loop
 Inv-loop r s table q₀ i₀ q i = (i ≤ length s) × (q < 256) × (crc 7 7 q (drop i s) ≡ crc 7 7 r s)
@@ -26,14 +29,10 @@ shared-slice-read-q : tie.Need-shared-slice-read-q Inv-loop μ-loop
 shared-slice-read-q c = search needs
 
 cast-q : tie.Need-cast-q Inv-loop μ-loop
-cast-q c =
-    let l = c .before .before .loop in
-    record { fits = omega (arith, xor-lt 8 (l .q) (getD (c .before .before .before .before .before .args .s .now) (l .i) 0) (l .inv .1) (c .shared-slice-known2 .given (l .i) .fits)) }
+cast-q c = record { fits = widened (xor-lt 8 (c .before .before .loop .q) _ (c .before .before .loop .inv .1) (c .shared-slice-known2 .given _ .fits)) }
 
 array-read-q : tie.Need-array-read-q Inv-loop μ-loop
-array-read-q c =
-    let l = c .before .before .loop in
-    xor-lt 8 (l .q) _ (l .inv .1) (c .shared-slice-known2 .given (l .i) .fits)
+array-read-q c = xor-lt 8 (c .before .before .loop .q) _ (c .before .before .loop .inv .1) (c .shared-slice-known2 .given _ .fits)
 
 add-i : tie.Need-add-i Inv-loop μ-loop
 add-i c = search needs

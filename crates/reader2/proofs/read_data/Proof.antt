@@ -14,10 +14,10 @@ use Rattle.reader2.proofs.copy.Reads as copy-reads
 use Rattle.reader2.proofs.refuse.Reads as refuse-reads
 
 sub-size : tie.Need-sub-size
-sub-size c = size-range _ (c .before .before .pre .0) .0
+sub-size c = omega (arith, size-range _ (c .before .before .pre .0) .0)
 
 sub-copy : tie.Need-sub-copy
-sub-copy c = size-range _ (c .before .before .before .before .pre .0) .0
+sub-copy c = omega (arith, size-range _ (c .before .before .before .before .pre .0) .0)
 
 part-copy-start : tie.Need-part-copy-start
 part-copy-start c = let k = size-range _ (c .before .before .before .before .pre .0) in search needs
