@@ -2,12 +2,9 @@
 use mathlib.Core.Path.{_≡_, refl, sym, ap, ap₂, _∙_, subst}
 use mathlib.Core.Bool.{Bool, true, false, not, cond, _&&_, Bool·not-not, false≢true}
 use mathlib.Core.List.{List, [], _∷_, _++_}
-use Prim.Native.Nat.{ℕ, _+_, _≤_}
-use native.Mathlib.Omega.{arith}
+use Prim.Native.Nat.{ℕ}
 use lib.Bits.{bitXor, xor-self, xor-zero-r}
 use lib.Dec.{eqb}
-use lib.ListN.{length, drop, length-append}
-use lib.Seq.{drop-append-seam, drop-append-add}
 use borrow.Author.Tests.{eqb-true}
 use Rattle.crc.proofs.Xor.{xor-assoc}
 use Rattle.stuffing.specs.Stuffing.{stuffingByte, stuffingKey, special, stuffedByte, stuffed, opensPair, wrongIn, pairsGood, plainOf, unstuffed}
@@ -66,15 +63,3 @@ stuffed-unstuffed false (b ∷ l) e = by (eqb b stuffingByte) (special b) refl r
 pub good-exactly : (l : List ℕ) → (pairsGood false l ≡ true → stuffed (unstuffed false l) ≡ l) × (stuffed (unstuffed false l) ≡ l → pairsGood false l ≡ true)
 good-exactly l =
     (stuffed-unstuffed false l, λ (e : stuffed (unstuffed false l) ≡ l). subst (λ (x : List ℕ). pairsGood false x ≡ true) e (stuffed-good (unstuffed false l)))
-
--- behind the first two bytes that good ones stand for come those of the rest
-pub behind-two : (c : List ℕ) (n m : ℕ) (d : List ℕ) → pairsGood false c ≡ true → unstuffed false c ≡ n ∷ m ∷ d
-    → (drop (length (stuffedByte n) + length (stuffedByte m)) c ≡ stuffed d) × (length (stuffedByte n) + length (stuffedByte m) ≤ length c)
-unfolding stuffed
-behind-two c n m d good e =
-    let x = stuffedByte n in
-    let y = stuffedByte m in
-    let whole : c ≡ x ++ (y ++ stuffed d) = sym (stuffed-unstuffed false c good) ∙ ap stuffed e in (
-      ap (drop (length x + length y)) whole ∙ drop-append-add x (y ++ stuffed d) (length y) ∙ drop-append-seam y (stuffed d),
-      omega (arith, simp length-append at (ap length whole)),
-    )

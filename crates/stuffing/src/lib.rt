@@ -46,7 +46,7 @@ pub fn any_special(bytes: &[u8]) -> bool
 }
 
 // How many bytes b becomes.
-pub fn size(b: u8) -> usize
+fn size(b: u8) -> usize
     ensures { λ r. ⌜ r ≡ length (stuffedByte b) ⌝ }
 {
     if is_special(b) {
