@@ -57,7 +57,7 @@ module _ (k poly : ℕ) where
         (scaled (a / 2 ^ k) poly (2 ^ suc k) (top k h) narrow)
 
     -- any number of bits is linear
-    pub steps-xor : (n a b : ℕ) → a < 2 ^ suc k → b < 2 ^ suc k → bitSteps n k poly (bitXor a b) ≡ bitXor (bitSteps n k poly a) (bitSteps n k poly b)
+    steps-xor : (n a b : ℕ) → a < 2 ^ suc k → b < 2 ^ suc k → bitSteps n k poly (bitXor a b) ≡ bitXor (bitSteps n k poly a) (bitSteps n k poly b)
     unfolding bitSteps
     steps-xor zero a b ha hb = refl
     steps-xor (suc n) a b ha hb = ap (bitSteps n k poly) (step-xor a b ha hb) ∙ steps-xor n (bitStep k poly a) (bitStep k poly b) (step-lt a ha) (step-lt b hb)

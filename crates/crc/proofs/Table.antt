@@ -2,7 +2,7 @@
 use mathlib.Core.Path.{_≡_, sym, ap, _∙_}
 use Prim.Native.Nat.{ℕ, zero, suc, _+_, _<_}
 use native.Mathlib.Nat.{add-zero, zero-add, add-suc, suc-add, le-of-suc-le-suc, not-suc-le-zero}
-use lib.ListN.{length, getD}
+use lib.ListN.{getD}
 use Rattle.crc.specs.Crc.{entriesFrom, tableOf, byteStep}
 
 entry-from : (f : ℕ → ℕ) (i n j : ℕ) → j < n → getD (entriesFrom f i n) j 0 ≡ f (i + j)

@@ -24,7 +24,7 @@ pub from-end : (to : ℕ) (out : List ℕ) → from to [] out ≡ out
 unfolding overlay
 from-end to out = rw take-nil (take-append-drop to out)
 
-pub from-full : (to : ℕ) (bytes out : List ℕ) → length out ≤ to → from to bytes out ≡ out
+from-full : (to : ℕ) (bytes out : List ℕ) → length out ≤ to → from to bytes out ≡ out
 unfolding overlay
 from-full to bytes out h = rw (drop-of-length-le out h, drop-nil, take-all to out h) (append-nil out)
 

@@ -1,22 +1,21 @@
 -- What the writer answers and leaves, by the bytes that were written. Assumes nothing.
-use mathlib.Core.Path.{_≡_, refl, sym, ap, ap₂, _∙_}
+use mathlib.Core.Path.{_≡_, refl, ap, ap₂, _∙_}
 use mathlib.Core.Bool.{Bool, true, false, cond, not}
 use mathlib.Core.List.{List, [], _∷_, _++_}
 use Prim.Native.Nat.{ℕ, zero, suc, _+_, _≤_, _<_}
 use native.Mathlib.Omega.{arith}
-use lib.Dec.{leb, ltb, eqb}
+use lib.Dec.{leb, ltb}
 use lib.ListN.{length, take, drop, getD, replicate, length-append, length-take}
 use borrow.Author.Tests.{leb-true, leb-false, le-ltb, lt-ltb}
-use Rattle.stuffing.specs.Stuffing.{stuffedByte, stuffed}
+use Rattle.stuffing.specs.Stuffing.{stuffed}
 use Rattle.stuffing.proofs.Laws.{size-le}
-use Rattle.framing.specs.Packet.{packetOf, sizeWritten, writtenTo}
+use Rattle.framing.specs.Packet.{sizeWritten, writtenTo}
 use Rattle.framing.proofs.Writing.{length-packet}
 use Rattle.commands2.specs.declared.Command.{Command}
 use Rattle.commands2.specs.declared.Data.{Data}
 use Rattle.commands2.specs.ByValue.{byValue, dataByValue}
 use Rattle.commands2.specs.Commands.{numberOf, dataOf, good}
 use Rattle.commands2.proofs.DataBytes.{length-data-le}
-use Rattle.commands.specs.declared.Wrote.{Wrote}
 use Rattle.writer2.specs.Writer.{headerOf, framed, contentOf, packetBytes, wrote, written}
 
 length-stuffed-le : (l : List ℕ) → length (stuffed l) ≤ length l + length l

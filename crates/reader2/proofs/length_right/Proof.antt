@@ -1,11 +1,8 @@
 -- `reader2::length_right` meets its contract. Assumes nothing.
-use mathlib.Core.Path.{_≡_, refl, sym, ap, _∙_}
-use mathlib.Core.Bool.{Bool, _&&_}
 use mathlib.Core.List.{List}
-use Prim.Native.Nat.{ℕ, _-_, _≤_}
+use Prim.Native.Nat.{_-_}
 use native.Mathlib.Omega.{arith}
-use lib.ListN.{length, drop, getD, take, length-drop}
-use lib.Seq.{take-all}
+use lib.ListN.{length, take}
 use Rattle.reader2.proofs.Header.{length-short, length-whole}
 use borrow.Author.Needs.{needs}
 use Rattle.reader2.proofs.length_right.Statement.{statement}

@@ -1,5 +1,5 @@
 -- `reader2::read_plain` meets its contract. Assumes nothing.
-use mathlib.Core.Path.{_≡_, sym, _∙_}
+use mathlib.Core.Path.{sym, _∙_}
 use Rattle.reader2.proofs.Covered.{size-range, right-asked, wrong-size, wrong-value, room-left}
 use borrow.Author.Needs.{needs}
 use Rattle.reader2.proofs.read_plain.Statement.{statement}

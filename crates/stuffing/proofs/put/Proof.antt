@@ -1,5 +1,5 @@
 -- `stuffing::put` meets its contract. Assumes nothing.
-use mathlib.Core.Path.{_≡_, sym}
+use mathlib.Core.Path.{sym}
 use borrow.Author.Needs.{needs}
 use lib.Seq.{set-out}
 use Rattle.stuffing.proofs.put.Statement.{statement}

@@ -6,7 +6,7 @@ use mathlib.Core.Logic.{⊎-elim}
 use Prim.Native.Nat.{ℕ, _≤_, _<_, _-_, _+_}
 use native.Mathlib.Omega.{arith}
 use borrow.Author.Needs.{needs}
-use lib.Bits.{bitXor, xor-lt}
+use lib.Bits.{xor-lt}
 use lib.ListN.{length, drop, getD}
 use Rattle.crc.specs.Crc.{crc, byteStep}
 use Rattle.crc.proofs.Laws.{looked-up8, byte-lt8}

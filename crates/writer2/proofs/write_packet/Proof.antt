@@ -1,8 +1,7 @@
 -- `writer2::write_packet` meets its contract. Assumes nothing.
-use mathlib.Core.Path.{_≡_, sym, ap, _∙_}
+use mathlib.Core.Path.{sym, ap, _∙_}
 use Prim.Native.Nat.{ℕ}
 use native.Mathlib.Omega.{arith}
-use Rattle.commands.specs.declared.Wrote.{Wrote}
 use Rattle.writer2.proofs.Written.{not-good, too-short, fits, size-small}
 use borrow.Author.Needs.{needs}
 use Rattle.writer2.proofs.write_packet.Statement.{statement}
