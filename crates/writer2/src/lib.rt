@@ -13,23 +13,32 @@ ghost use Rattle.stuffing.specs.Stuffing.{stuffed};
 ghost use Rattle.framing.specs.Packet.{sizeWritten, writtenTo};
 ghost use Rattle.writer2.specs.Writer.{headerOf, contentOf, wrote, written};
 
-// The checksum over these bytes, stuffed.
-fn check_stuffed(c: &[u8]) -> u8
-    ensures { λ r. ⌜ r ≡ crc8 (stuffed (now (c .entry))) ⌝ }
+// What the header tells of the bytes behind it: their checksum, and how many they are.
+struct Told {
+    check: u8,
+    size: usize,
+}
+
+// Of these bytes, stuffed.
+fn sum_stuffed(c: &[u8]) -> Told
+    requires { ⌜ length (now c) ≤ 62 ⌝ }
+    ensures { λ r. ⌜ r ≡ record { check = crc8 (stuffed (now (c .entry))); size = length (stuffed (now (c .entry))) } ⌝ }
 {
     let table = crc::remainders8();
-    let mut r = 0;
+    let mut check = 0;
+    let mut size = c.len();
     let mut i = 0;
     while i < c.len() {
         let mut b = c[i];
         if stuffing::is_special(b) {
-            r = table[(r ^ STUFFING) as usize];
+            check = table[(check ^ STUFFING) as usize];
+            size += 1;
             b = b ^ KEY;
         }
-        r = table[(r ^ b) as usize];
+        check = table[(check ^ b) as usize];
         i += 1;
     }
-    r
+    Told { check, size }
 }
 
 // Writes the packet of a content that is short enough for its length to have one byte: how many bytes it has, 0 where out is too short.
@@ -37,10 +46,8 @@ fn write_content(content: &[u8], out: &mut [u8]) -> usize
     requires { ⌜ length (now content) ≤ 62 ⌝ }
     ensures { λ r. ⌜ (r ≡ sizeWritten (now (out .entry)) (headerOf (now (content .entry))) (now (content .entry))) × (now (out .exit) ≡ writtenTo (now (out .entry)) (headerOf (now (content .entry))) (now (content .entry))) ⌝ }
 {
-    let header = [
-        check_stuffed(content),
-        stuffing::stuffed_size(content) as u8,
-    ];
+    let s = sum_stuffed(content);
+    let header = [s.check, s.size as u8];
     framing::write(out, &header, content)
 }
 
