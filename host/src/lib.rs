@@ -2,8 +2,8 @@
 //! writer of ScienceMode frames; and to the proved reader and writer of ScienceMode2 packets.
 //!
 //! [`Guard`], [`records()`] for its trace, [`read()`], [`write()`] and [`reply()`] for frames, and
-//! [`rehastim2`] for packets, are what a host program uses. [`calls`] has one function for each export of the library, for tests
-//! that drive them one by one. Clocks count tenths of a millisecond.
+//! [`rehastim2`] for packets, are what a host program uses. [`calls`] has one function for each export
+//! of the library, for tests that drive them one by one. Clocks count tenths of a millisecond.
 //!
 //! `cargo test` in this folder has the library proved and built first, and compares it with the
 //! codecs, the ring and the machine in `independent/`, which share nothing with it.

@@ -60,6 +60,23 @@ fn any_two_bytes() {
     }
 }
 
+/// Garbage of every length to 50, with a mark at every place of it.
+#[test]
+fn marks_at_every_place() {
+    for (length, mark) in (0..=50).flat_map(|length| [0xF0, 0x0F, 0x81].map(|mark| (length, mark)))
+    {
+        for place in 0..length {
+            let mut garbage = vec![0x33; length];
+            garbage[place] = mark;
+            if garbage.ends_with(&[0x81]) {
+                agree::read(&[&garbage[..], &WATCHDOG].concat(), 60);
+            } else {
+                passed_over(&garbage, &WATCHDOG);
+            }
+        }
+    }
+}
+
 /// Random garbage, if no packet is finished in it.
 #[test]
 fn random_garbage() {
