@@ -1,8 +1,8 @@
 -- A scan passes over a block in which no byte is special: nothing opens or closes in it, and its last byte is no stuffing byte. Assumes nothing.
 use mathlib.Core.Path.{_≡_, refl, sym, ap, _∙_}
-use mathlib.Core.Bool.{Bool, true, false, not, _&&_, _||_, false≢true}
+use mathlib.Core.Bool.{Bool, true, false, not, cond, _||_, false≢true}
 use mathlib.Core.List.{List, [], _∷_, _++_}
-use Prim.Native.Nat.{ℕ, suc, _+_, _-_, _%_, _≤_, _<_}
+use Prim.Native.Nat.{ℕ, suc, _+_, _-_, _≤_, _<_}
 use native.Mathlib.Numerals.{add-one}
 use native.Mathlib.Omega.{arith}
 use lib.Dec.{eqb, leb}
@@ -62,18 +62,33 @@ over : (prev body at : ℕ) (xs rest : List ℕ) → 0 < length xs → anySpecia
 over prev body at [] rest h e = absurd (omega arith)
 over prev body at (b ∷ xs) rest h e = run prev body at b xs rest e
 
-parts : (s : List ℕ) (at : ℕ) → quiet s at ≡ true → (16 ≤ length s - at) × (anySpecial (take 16 (drop at s)) ≡ false)
+parts : (s : List ℕ) (at : ℕ) → quiet s at ≡ true → (leb 16 (length s - at) ≡ true) × (anySpecial (take 16 (drop at s)) ≡ false)
 unfolding quiet
 parts s at e =
-    let t = both (eqb (at % 16) 0 && leb 16 (length s - at)) (not (anySpecial (take 16 (drop at s)))) e in
-    (leb-true 16 (length s - at) (both (eqb (at % 16) 0) (leb 16 (length s - at)) (t .0) .1), not-true (anySpecial (take 16 (drop at s))) (t .1))
+    let t = both (leb 16 (length s - at)) (not (anySpecial (take 16 (drop at s)))) e in
+    (t .0, not-true (anySpecial (take 16 (drop at s))) (t .1))
 
-pub within : (s : List ℕ) (at : ℕ) → quiet s at ≡ true → at + 16 ≤ length s
-within s at e = omega (arith, parts s at e .0)
+within : (s : List ℕ) (at : ℕ) → quiet s at ≡ true → at + 16 ≤ length s
+within s at e = omega (arith, leb-true 16 (length s - at) (parts s at e .0))
 
-pub quiet-turn : (prev body : ℕ) (s : List ℕ) (at : ℕ) → quiet s at ≡ true → scan prev body at (drop at s) ≡ scan 0 body (at + 16) (drop (at + 16) s)
-quiet-turn prev body s at e =
+-- where a block ends
+pub further : (n at end : ℕ) → end ≡ cond (leb 16 (n - at)) (at + 16) n → at < n → (at < end) × (end ≤ n)
+further n at end e h = by (leb 16 (n - at)) refl e
+  where
+    by : (t : Bool) → leb 16 (n - at) ≡ t → end ≡ cond t (at + 16) n → (at < end) × (end ≤ n)
+    by true p q = (omega arith, omega (arith, leb-true 16 (n - at) p))
+    by false p q = (omega arith, omega arith)
+
+ends : (s : List ℕ) (at end : ℕ) → end ≡ cond (leb 16 (length s - at)) (at + 16) (length s) → quiet s at ≡ true → end ≡ at + 16
+ends s at end e q = e ∙ ap (λ (t : Bool). cond t (at + 16) (length s)) (parts s at q .0)
+
+quiet-on : (prev body : ℕ) (s : List ℕ) (at : ℕ) → quiet s at ≡ true → scan prev body at (drop at s) ≡ scan 0 body (at + 16) (drop (at + 16) s)
+quiet-on prev body s at e =
     let l = drop at s in
     let n : length (take 16 l) ≡ 16 = length-take-le 16 l (omega (arith, within s at e, length-drop at s)) in
     ap (scan prev body at) (sym (take-append-drop 16 l)) ∙ over prev body at (take 16 l) (drop 16 l) (omega arith) (parts s at e .1)
     ∙ ap (λ (k : ℕ). scan 0 body (at + k) (drop 16 l)) n ∙ ap (scan 0 body (at + 16)) (drop-drop 16 at s)
+
+pub quiet-turn : (prev body : ℕ) (s : List ℕ) (at end : ℕ) → end ≡ cond (leb 16 (length s - at)) (at + 16) (length s) → quiet s at ≡ true
+    → scan prev body at (drop at s) ≡ scan 0 body end (drop end s)
+quiet-turn prev body s at end e q = quiet-on prev body s at q ∙ ap (λ (n : ℕ). scan 0 body n (drop n s)) (sym (ends s at end e q))

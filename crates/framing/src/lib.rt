@@ -4,10 +4,10 @@ use stuffing::START;
 use stuffing::STOP;
 use stuffing::STUFFING;
 ghost use mathlib.Core.Path.{_≡_};
-ghost use Prim.Native.Nat.{_+_, _≤_};
-ghost use mathlib.Core.Bool.{_||_};
+ghost use Prim.Native.Nat.{_+_, _-_, _≤_};
+ghost use mathlib.Core.Bool.{cond, _||_};
 ghost use lib.Dec.{eqb, leb};
-ghost use lib.ListN.{length};
+ghost use lib.ListN.{length, drop};
 ghost use lib.Seq.{sets};
 ghost use Rattle.stuffing.specs.Stuffing.{startByte, stopByte, pair, stuffedByte, stuffed, pairs};
 ghost use Rattle.framing.specs.Packet.{packetOf, sizeWritten, writtenTo};
@@ -41,17 +41,64 @@ fn is_open(prev: u8, b: u8) -> bool
 // How many bytes are passed over at once.
 const BLOCK: usize = 16;
 
-// Is at the place of a whole block in which no byte is special?
+// The end of the block at place at: n where no whole block is left.
+fn block_end(n: usize, at: usize) -> usize
+    requires { ⌜ at ≤ n ⌝ }
+    ensures { λ r. ⌜ r ≡ cond (leb 16 (n - at)) (at + 16) n ⌝ }
+{
+    if BLOCK <= n - at {
+        return at + BLOCK;
+    }
+    n
+}
+
+// Is a whole block left at place at, and no byte of it special?
 fn is_quiet(s: &[u8], at: usize) -> bool
     requires { ⌜ at ≤ length (now s) ⌝ }
     ensures { λ r. ⌜ r ≡ quiet (now (s .entry)) at ⌝ }
 {
-    if at % BLOCK == 0 {
-        if BLOCK <= s.len() - at {
-            return !stuffing::any_special(&s[at..at + BLOCK]);
-        }
+    if BLOCK <= s.len() - at {
+        return !stuffing::any_special(&s[at..at + BLOCK]);
     }
     false
+}
+
+// The bytes from at to end passed one by one: the packet that is finished there (used is not 0), or what is known behind them.
+struct Walked {
+    prev: u8,
+    body: usize,
+    used: usize,
+}
+
+fn walk(s: &[u8], last: u8, start: usize, from: usize, end: usize) -> Walked
+    requires { ⌜ (from ≤ end) × (end ≤ length (now s)) ⌝ }
+    ensures { λ r. ⌜ scan last start from (drop from (now (s .entry))) ≡ cond (eqb (r .used) 0) (scan (r .prev) (r .body) end (drop end (now (s .entry)))) (record { body = r .body; used = r .used }) ⌝ }
+{
+    let mut prev = last;
+    let mut body = start;
+    let mut at = from;
+    while at < end {
+        let b = s[at];
+        if is_mark(b) {
+            if is_close(prev, body, b) {
+                return Walked {
+                    prev,
+                    body,
+                    used: at + 1,
+                };
+            }
+            if is_open(prev, b) {
+                body = at + 1;
+            }
+        }
+        prev = b;
+        at += 1;
+    }
+    Walked {
+        prev,
+        body,
+        used: 0,
+    }
 }
 
 // The first packet that is finished in s. In a quiet block nothing opens or closes, and no byte behind it stands straight after a stuffing byte.
@@ -62,22 +109,21 @@ pub fn find(s: &[u8]) -> Found
     let mut body: usize = 0;
     let mut at: usize = 0;
     while at < s.len() {
+        let end = block_end(s.len(), at);
         if is_quiet(s, at) {
             prev = 0;
-            at += BLOCK;
         } else {
-            let b = s[at];
-            if is_mark(b) {
-                if is_close(prev, body, b) {
-                    return Found { body, used: at + 1 };
-                }
-                if is_open(prev, b) {
-                    body = at + 1;
-                }
+            let w = walk(s, prev, body, at, end);
+            if w.used != 0 {
+                return Found {
+                    body: w.body,
+                    used: w.used,
+                };
             }
-            prev = b;
-            at += 1;
+            prev = w.prev;
+            body = w.body;
         }
+        at = end;
     }
     Found { body: 0, used: 0 }
 }

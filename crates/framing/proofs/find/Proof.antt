@@ -1,12 +1,15 @@
 -- `framing::find` meets its contract. The loop's invariant: what the scan finds from here on is what it finds in all. Assumes nothing.
 use mathlib.Core.Path.{_≡_, refl, sym, ap, _∙_}
-use mathlib.Core.Logic.{⊎-elim}
-use Prim.Native.Nat.{ℕ, _≤_, _<_, _-_, _+_}
+use mathlib.Core.Bool.{Bool, cond}
+use Prim.Native.Nat.{_≤_, _-_}
+use native.Mathlib.Omega.{arith}
 use borrow.Author.Needs.{needs}
-use lib.ListN.{length, drop, getD}
-use Rattle.framing.specs.Scan.{opened, scan}
-use Rattle.framing.proofs.Finding.{opened-yes, opened-no, scan-found, scan-on, scan-end}
-use Rattle.framing.proofs.Blocks.{scan-unmarked, within, quiet-turn}
+use borrow.Author.Tests.{eq-eqb, ne-eqb}
+use lib.ListN.{length, drop}
+use Rattle.framing.specs.declared.Found.{Found}
+use Rattle.framing.specs.Scan.{scan}
+use Rattle.framing.proofs.Finding.{scan-end}
+use Rattle.framing.proofs.Blocks.{further, quiet-turn}
 use Rattle.framing.proofs.find.Statement.{statement}
 use Rattle.framing.proofs.find.Tie as tie
 
@@ -19,71 +22,48 @@ abbrev μ-loop : tie.MeasureT-loop
 loop-holds : tie.Need-loop-holds Inv-loop μ-loop
 loop-holds c = (search needs, refl)
 
+block-end-requires : tie.Need-block-end-requires Inv-loop μ-loop
+block-end-requires c κs = search needs
+
 is-quiet-requires : tie.Need-is-quiet-requires Inv-loop μ-loop
 is-quiet-requires c κs = search needs
 
-add-at : tie.Need-add-at Inv-loop μ-loop
-add-at c = let h = within _ _ (sym (c .before .is-quiet .ensures) ∙ c .if1 .taken) in search needs
-
-loop-less : tie.Need-loop-less Inv-loop μ-loop
-loop-less c = let h = within _ _ (sym (c .before .is-quiet .ensures) ∙ c .if1 .taken) in search needs
-
-loop-again : tie.Need-loop-again Inv-loop μ-loop
-loop-again c =
-    let l = c .before .before .before .loop in
-    let s = c .before .before .before .before .before .args .s .now in
-    let e = sym (c .before .is-quiet .ensures) ∙ c .if1 .taken in
-    (within s (l .at) e, sym (quiet-turn (l .prev) (l .body) s (l .at) e) ∙ l .inv .1)
-
-shared-slice-read-b : tie.Need-shared-slice-read-b Inv-loop μ-loop
-shared-slice-read-b c = search needs
-
-is-mark-requires : tie.Need-is-mark-requires Inv-loop μ-loop
-is-mark-requires c κs = tt
-
-is-close-requires : tie.Need-is-close-requires Inv-loop μ-loop
-is-close-requires c κs = tt
-
-add-t13 : tie.Need-add-t13 Inv-loop μ-loop
-add-t13 c = search needs
+walk-requires : tie.Need-walk-requires Inv-loop μ-loop
+walk-requires c κs = let f = further _ _ _ (c .before .before .block-end .ensures) (c .before .before .before .loop-test .taken) in (omega (arith, f .0), f .1)
 
 returns : tie.Need-returns Inv-loop μ-loop
 returns c =
-    let l = c .before .before .before .before .before .before .before .before .loop in
-    let s = c .before .before .before .before .before .before .before .before .before .before .args .s .now in
-    sym (scan-found (l .prev) (l .body) s (l .at) (search needs) (sym (c .before .is-close .ensures) ∙ c .if3 .taken)) ∙ l .inv .1
+    let l = c .before .before .before .before .before .before .before .loop in
+    let s = c .before .before .before .before .before .before .before .before .before .args .s .now in
+    let w = c .before .before .walk in
+    let end = c .before .before .before .before .before .block-end .result in
+    sym (w .ensures ∙ ap (λ (t : Bool). cond {A = Found} t (scan (w .result .prev) (w .result .body) end (drop end s)) (record { body = w .result .body; used = w .result .used })) (ne-eqb (w .result .used) 0 (c .if2 .taken)))
+    ∙ l .inv .1
 
-is-open-requires : tie.Need-is-open-requires Inv-loop μ-loop
-is-open-requires c κs = tt
+loop-less : tie.Need-loop-less Inv-loop μ-loop
+loop-less c = let f = further _ _ _ (c .before .before .block-end .ensures) (c .before .before .before .loop-test .taken) in omega (arith, f .0, f .1)
 
-add-body : tie.Need-add-body Inv-loop μ-loop
-add-body c = search needs
-
-add-at-2 : tie.Need-add-at-2 Inv-loop μ-loop
-add-at-2 c = search needs
+loop-again : tie.Need-loop-again Inv-loop μ-loop
+loop-again c =
+    let l = c .before .before .before .before .loop in
+    let s = c .before .before .before .before .before .before .args .s .now in
+    let e = c .before .before .block-end in
+    let f = further (length s) (l .at) (e .result) (e .ensures) (c .before .before .before .loop-test .taken) in
+    (f .1, sym (quiet-turn (l .prev) (l .body) s (l .at) (e .result) (e .ensures) (sym (c .before .is-quiet .ensures) ∙ c .if1 .taken)) ∙ l .inv .1)
 
 loop-less-2 : tie.Need-loop-less-2 Inv-loop μ-loop
-loop-less-2 c = search needs
+loop-less-2 c = let f = further _ _ _ (c .before .before .before .before .before .block-end .ensures) (c .before .before .before .before .before .before .loop-test .taken) in omega (arith, f .0, f .1)
 
 loop-again-2 : tie.Need-loop-again-2 Inv-loop μ-loop
 loop-again-2 c =
-    let l = c .before .before .before .before .before .before .loop in
-    let s = c .before .before .before .before .before .before .before .before .args .s .now in
-    let b = getD s (l .at) 0 in
-    let h : l .at < length s = search needs in (
-      search needs,
-      ⊎-elim
-          (λ w.
-          ap (λ (n : ℕ). scan b n (l .at + 1) (drop (l .at + 1) s)) (w .5 ∙ opened-yes (l .prev) (l .body) b (l .at) (sym (w .3 .ensures) ∙ w .4 .taken))
-          ∙ sym (scan-on (l .prev) (l .body) s (l .at) h (sym (w .1 .ensures) ∙ w .2 .left)) ∙ l .inv .1)
-          (⊎-elim
-          (λ w.
-          ap (λ (n : ℕ). scan b n (l .at + 1) (drop (l .at + 1) s)) (w .5 ∙ opened-no (l .prev) (l .body) b (l .at) (sym (w .3 .ensures) ∙ w .4 .left))
-          ∙ sym (scan-on (l .prev) (l .body) s (l .at) h (sym (w .1 .ensures) ∙ w .2 .left)) ∙ l .inv .1)
-          (λ w.
-          ap (λ (n : ℕ). scan b n (l .at + 1) (drop (l .at + 1) s)) (w .1)
-          ∙ sym (scan-unmarked (l .prev) (l .body) s (l .at) h (sym (c .before .is-mark .ensures) ∙ w .0 .left)) ∙ l .inv .1))
-          (c .if2 .came),
+    let l = c .before .before .before .before .before .before .before .loop in
+    let s = c .before .before .before .before .before .before .before .before .before .args .s .now in
+    let w = c .before .before .walk in
+    let e = c .before .before .before .before .before .block-end in
+    let f = further (length s) (l .at) (e .result) (e .ensures) (c .before .before .before .before .before .before .loop-test .taken) in (
+      f .1,
+      sym (w .ensures ∙ ap (λ (t : Bool). cond {A = Found} t (scan (w .result .prev) (w .result .body) (e .result) (drop (e .result) s)) (record { body = w .result .body; used = w .result .used })) (eq-eqb (w .result .used) 0 (c .if2 .left)))
+          ∙ l .inv .1,
     )
 
 returns-2 : tie.Need-returns-2 Inv-loop μ-loop
@@ -98,18 +78,12 @@ find-spec =
     Inv-loop
     μ-loop
     loop-holds
+    block-end-requires
     is-quiet-requires
-    add-at
+    walk-requires
+    returns
     loop-less
     loop-again
-    shared-slice-read-b
-    is-mark-requires
-    is-close-requires
-    add-t13
-    returns
-    is-open-requires
-    add-body
-    add-at-2
     loop-less-2
     loop-again-2
     returns-2)

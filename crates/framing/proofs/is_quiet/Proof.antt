@@ -1,9 +1,9 @@
 -- `framing::is_quiet` meets its contract. Assumes nothing.
 use mathlib.Core.Path.{_≡_, ap, _∙_}
 use mathlib.Core.Bool.{not}
-use Prim.Native.Nat.{ℕ, _+_, _-_, _%_}
+use Prim.Native.Nat.{ℕ, _+_, _-_}
 use native.Mathlib.Omega.{arith}
-use borrow.Author.Tests.{eq-eqb, ne-eqb, le-leb, lt-leb}
+use borrow.Author.Tests.{le-leb, lt-leb}
 use lib.ListN.{length, take, drop}
 use Rattle.stuffing.specs.Stuffing.{anySpecial}
 use Rattle.framing.specs.Blocks.{quiet}
@@ -14,8 +14,8 @@ use Rattle.framing.proofs.is_quiet.Reads as reads
 use Rattle.framing.proofs.is_quiet.Lts as lts
 use Rattle.stuffing.proofs.any_special.Reads as any-special-reads
 
-sub-if2 : tie.Need-sub-if2
-sub-if2 c = search needs
+sub-if1 : tie.Need-sub-if1
+sub-if1 c = search needs
 
 add-any-special : tie.Need-add-any-special
 add-any-special c = search needs
@@ -35,32 +35,24 @@ any-special-requires c κs = search needs
 returns : tie.Need-returns
 unfolding quiet
 returns c =
-    let a = c .before .before .before .before .before .args in
+    let a = c .before .before .before .before .args in
     let s = a .s .now in
     let n : a .at + 16 - a .at ≡ 16 = omega arith in
-    rw (eq-eqb (a .at % 16) 0 (c .before .before .before .if1 .taken), le-leb 16 (length s - a .at) (c .before .before .if2 .taken))
-    (ap not (c .any-special .ensures ∙ ap (λ (k : ℕ). anySpecial (take k (drop (a .at) s))) n))
+    rw (le-leb 16 (length s - a .at) (c .before .before .if1 .taken)) (ap not (c .any-special .ensures ∙ ap (λ (k : ℕ). anySpecial (take k (drop (a .at) s))) n))
 
 returns-2 : tie.Need-returns-2
 unfolding quiet
-returns-2 c =
-    let a = c .before .before .before .args in
-    rw (eq-eqb (a .at % 16) 0 (c .before .if1 .taken), lt-leb 16 (length (a .s .now) - a .at) (c .if2 .left))
-
-returns-3 : tie.Need-returns-3
-unfolding quiet
-returns-3 c = rw (ne-eqb (c .before .before .args .at % 16) 0 (c .if1 .left))
+returns-2 c = rw (lt-leb 16 (length (c .before .before .args .s .now) - c .before .before .args .at) (c .if1 .left))
 
 pub is-quiet-spec : {M : Type 1} → statement M
 is-quiet-spec =
     tie.close
     (tie.spec
-    sub-if2
+    sub-if1
     add-any-special
     sub-any-special
     part-any-special-start
     part-any-special-end
     any-special-requires
     returns
-    returns-2
-    returns-3)
+    returns-2)

@@ -2,7 +2,7 @@
 use mathlib.Core.List.{List}
 use Prim.Native.Nat.{_-_}
 use native.Mathlib.Omega.{arith}
-use lib.ListN.{length, take}
+use lib.ListN.{length}
 use Rattle.reader2.proofs.Header.{length-short, length-whole}
 use borrow.Author.Needs.{needs}
 use Rattle.reader2.proofs.length_right.Statement.{statement}
