@@ -23,7 +23,7 @@ use Rattle.demands2.proofs.Readings.{Passed}
 abbrev pub bodyFor : List ℕ → List ℕ
 bodyFor content = bodyOf (headerOf content) content
 
-pub covered-for : (content : List ℕ) → covered (bodyFor content) ≡ stuffed content
+covered-for : (content : List ℕ) → covered (bodyFor content) ≡ stuffed content
 unfolding bodyOf headerOf pairs
 covered-for content = refl
 

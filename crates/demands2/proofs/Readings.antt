@@ -41,7 +41,7 @@ passes body room e =
       fits = ltb-false _ _ (h .0);
     }
 
-pub passing : (body : List ℕ) (room : ℕ) → Passed body room → bodyAnswer body room ≡ 0
+passing : (body : List ℕ) (room : ℕ) → Passed body room → bodyAnswer body room ≡ 0
 passing body room p = rw (p .check, p .long, p .pairs, p .size, p .values, le-ltb room (length (dataIn (covered body))) (p .fits))
 
 -- the body of the first finished packet, and what is put to the output where its data is

@@ -13,6 +13,7 @@ use Rattle.commands.specs.Answers.{firstOf}
 use Rattle.stuffing.specs.Stuffing.{stuffed, pairsGood, unstuffed}
 use Rattle.stuffing.specs.declared.Surveyed.{Surveyed}
 use Rattle.stuffing.specs.Overlay.{overlay}
+use Rattle.stuffing.proofs.Tests.{both}
 use Rattle.stuffing.proofs.RoundTrip.{unstuffed-stuffed, stuffed-good, stuffed-unstuffed}
 use Rattle.stuffing.proofs.Overlay.{overlay-fits}
 use Rattle.commands2.specs.declared.Command.{Command}
@@ -21,14 +22,9 @@ use Rattle.reader2.specs.declared.Read.{Read}
 use Rattle.reader2.specs.Reader.{plain, sizeGood, dataIn, commandIn, coveredTests, refused, found}
 use Rattle.reader2.proofs.Tests.{Gives, wrong-pairs, bad-value, by-room}
 
-and-both : (a b : Bool) → a && b ≡ true → (a ≡ true) × (b ≡ true)
-and-both true true e = (refl, refl)
-and-both true false e = absurd (let z : _≡_ {A = ℕ} 0 1 = cc in omega arith)
-and-both false b e = absurd (let z : _≡_ {A = ℕ} 0 1 = cc in omega arith)
-
 pub size-range : (n : ℕ) → sizeGood n ≡ true → (2 ≤ n) × (n ≤ 62)
 unfolding sizeGood
-size-range n e = let t = and-both (leb 2 n) (leb n 62) e in (leb-true 2 n (t .0), leb-true n 62 (t .1))
+size-range n e = let t = both (leb 2 n) (leb n 62) e in (leb-true 2 n (t .0), leb-true n 62 (t .1))
 
 -- ---- the data, with room for it and without
 module _ (p out : List ℕ) (used : ℕ) (command : Command) (same : command ≡ commandOf (getD p 1 0) (drop 2 p)) (size : ℕ) (counted : size ≡ length p - 2) where
@@ -81,10 +77,10 @@ module _ (c : List ℕ) (s : Surveyed) (e : s ≡ record { good = pairsGood fals
 
   module _ (taken : (s .good && leb (s .size) 62) ≡ true) where
     pub short-enough : s .size ≤ 62
-    short-enough = leb-true (s .size) 62 (and-both (s .good) (leb (s .size) 62) taken .1)
+    short-enough = leb-true (s .size) 62 (both (s .good) (leb (s .size) 62) taken .1)
 
     pub written-again : stuffed (plain c) ≡ c
-    written-again = stuffed-unstuffed false c (and-both (pairsGood false c) (leb (length (plain c)) 62) (sym tested ∙ taken) .0)
+    written-again = stuffed-unstuffed false c (both (pairsGood false c) (leb (length (plain c)) 62) (sym tested ∙ taken) .0)
 
     pub prefix : (l : List ℕ) → l ≡ overlay (plain c) (replicate 62 0) → take (s .size) l ≡ plain c
     prefix l f =

@@ -22,8 +22,8 @@ pub fn is_special(b: u8) -> bool
     (b == START) | ((b == STOP) | (b == STUFFING))
 }
 
-// A byte that tells it: bytes are joined many at a time.
-fn mark(b: u8) -> u8
+// The same as a number: numbers are joined many at a time.
+fn flag(b: u8) -> u8
     ensures { λ r. ⌜ r ≡ cond (special b) 1 0 ⌝ }
 {
     if is_special(b) {
@@ -36,13 +36,13 @@ fn mark(b: u8) -> u8
 pub fn any_special(bytes: &[u8]) -> bool
     ensures { λ r. ⌜ r ≡ anySpecial (now (bytes .entry)) ⌝ }
 {
-    let mut marks = 0;
+    let mut flags = 0;
     let mut i = 0;
     while i < bytes.len() {
-        marks = marks | mark(bytes[i]);
+        flags = flags | flag(bytes[i]);
         i += 1;
     }
-    0 < marks
+    0 < flags
 }
 
 // How many bytes b becomes.

@@ -21,19 +21,19 @@ joined (suc zero) h false = (refl, omega arith)
 joined (suc (suc n)) h t = absurd (omega arith)
 
 abbrev Inv-loop : tie.InvT-loop
-Inv-loop bytes marks₀ i₀ marks i = (i ≤ length bytes) × (marks ≤ 1) × ((ltb 0 marks || anySpecial (drop i bytes)) ≡ anySpecial bytes)
+Inv-loop bytes flags₀ i₀ flags i = (i ≤ length bytes) × (flags ≤ 1) × ((ltb 0 flags || anySpecial (drop i bytes)) ≡ anySpecial bytes)
 
 abbrev μ-loop : tie.MeasureT-loop
-μ-loop bytes marks₀ i₀ marks i = length bytes - i
+μ-loop bytes flags₀ i₀ flags i = length bytes - i
 
 loop-holds : tie.Need-loop-holds Inv-loop μ-loop
 loop-holds c = (search needs, omega arith, refl)
 
-shared-slice-read-mark : tie.Need-shared-slice-read-mark Inv-loop μ-loop
-shared-slice-read-mark c = search needs
+shared-slice-read-flag : tie.Need-shared-slice-read-flag Inv-loop μ-loop
+shared-slice-read-flag c = search needs
 
-mark-requires : tie.Need-mark-requires Inv-loop μ-loop
-mark-requires c κs = tt
+flag-requires : tie.Need-flag-requires Inv-loop μ-loop
+flag-requires c κs = tt
 
 add-i : tie.Need-add-i Inv-loop μ-loop
 add-i c = search needs
@@ -46,18 +46,18 @@ loop-again c =
     let l = c .before .before .before .loop in
     let s = c .before .before .before .before .before .args .bytes .now in
     let t = special (getD s (l .i) 0) in
-    let m = joined (l .marks) (l .inv .1) t in
-    rw (c .mark .ensures) (
+    let m = joined (l .flags) (l .inv .1) t in
+    rw (c .flag .ensures) (
       search needs,
       m .1,
-      ap (λ (u : Bool). u || anySpecial (drop (l .i + 1) s)) (m .0) ∙ or-assoc (ltb 0 (l .marks)) t (anySpecial (drop (l .i + 1) s))
-          ∙ ap (λ (u : Bool). ltb 0 (l .marks) || u) (sym (any-on s (l .i) (search needs))) ∙ l .inv .2,
+      ap (λ (u : Bool). u || anySpecial (drop (l .i + 1) s)) (m .0) ∙ or-assoc (ltb 0 (l .flags)) t (anySpecial (drop (l .i + 1) s))
+          ∙ ap (λ (u : Bool). ltb 0 (l .flags) || u) (sym (any-on s (l .i) (search needs))) ∙ l .inv .2,
     )
 
 returns : tie.Need-returns Inv-loop μ-loop
 returns c =
     let l = c .before .loop in
-    any-end (ltb 0 (l .marks)) (c .before .before .before .args .bytes .now) (l .i) (c .loop-test .left) ∙ l .inv .2
+    any-end (ltb 0 (l .flags)) (c .before .before .before .args .bytes .now) (l .i) (c .loop-test .left) ∙ l .inv .2
 
 pub any-special-spec : {M : Type 1} → statement M
 any-special-spec =
@@ -66,8 +66,8 @@ any-special-spec =
     Inv-loop
     μ-loop
     loop-holds
-    shared-slice-read-mark
-    mark-requires
+    shared-slice-read-flag
+    flag-requires
     add-i
     loop-less
     loop-again

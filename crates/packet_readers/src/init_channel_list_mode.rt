@@ -1,0 +1,65 @@
+// InitChannelListMode and its acknowledgement, read.
+use crate::packet;
+use crate::packet::ReadResult;
+use crate::result;
+use commands2::numbers;
+ghost use mathlib.Core.Path.{_≡_};
+ghost use lib.ListN.{length};
+ghost use Rattle.reader2.specs.Reader.{readPacket, dataPut};
+ghost use Rattle.packet_readers.specs.Reports.{asPacket, asList, asResult};
+
+#[repr(C)]
+pub struct ReadList {
+    pub used: usize,
+    pub answer: u8,
+    pub packet: u8,
+    pub command: u8,
+    pub size: u8,
+    pub factor: u8,
+    pub active: u8,
+    pub lf: u8,
+    pub inter: u8,
+    pub main: u32,
+    pub execution: u32,
+}
+
+#[no_mangle]
+pub extern "C" fn yarrowbell_rehastim2_read_init_channel_list_mode(
+    s: &[u8],
+    out: &mut [u8],
+) -> ReadList
+    ensures { λ r. ⌜ (r ≡ asList (asPacket (readPacket (now (s .entry)) (length (now (out .entry)))))) × (now (out .exit) ≡ dataPut (now (s .entry)) (now (out .entry))) ⌝ }
+{
+    let p = packet::yarrowbell_rehastim2_read(s, out);
+    ReadList {
+        used: p.used,
+        answer: p.answer,
+        packet: p.packet,
+        command: p.command,
+        size: p.size,
+        factor: p.factor,
+        active: p.active,
+        lf: p.lf,
+        inter: p.inter,
+        main: p.main as u32,
+        execution: p.execution as u32,
+    }
+}
+
+#[no_mangle]
+pub extern "C" fn yarrowbell_rehastim2_read_init_channel_list_mode_ack(
+    s: &[u8],
+    out: &mut [u8],
+) -> ReadResult
+    ensures { λ r. ⌜ (r ≡ asResult 31 (asPacket (readPacket (now (s .entry)) (length (now (out .entry)))))) × (now (out .exit) ≡ dataPut (now (s .entry)) (now (out .entry))) ⌝ }
+{
+    let p = packet::yarrowbell_rehastim2_read(s, out);
+    ReadResult {
+        used: p.used,
+        answer: p.answer as u16,
+        packet: p.packet as u16,
+        command: p.command as u16,
+        size: p.size,
+        result: result::result_for(numbers::INIT_CHANNEL_LIST_MODE_ACK, p),
+    }
+}

@@ -1,0 +1,158 @@
+// A packet of any command, read.
+use commands2::ChannelList;
+use commands2::Command;
+use reader2::Read;
+ghost use mathlib.Core.Path.{_≡_};
+ghost use lib.ListN.{length};
+ghost use Rattle.reader2.specs.Reader.{readPacket, dataPut};
+ghost use Rattle.packet_readers.specs.Reports.{valuesOf, asPacket};
+
+// The values of a command, zero where it has none of that kind.
+struct Values {
+    version: u8,
+    echo: u8,
+    mode: u8,
+    result: i8,
+    list: ChannelList,
+}
+
+#[repr(C)]
+pub struct ReadPacket {
+    pub used: usize,
+    pub answer: u8,
+    pub packet: u8,
+    pub command: u8,
+    pub size: u8,
+    pub version: u8,
+    pub echo: u8,
+    pub mode: u8,
+    pub result: i8,
+    pub factor: u8,
+    pub active: u8,
+    pub lf: u8,
+    pub inter: u8,
+    pub main: u16,
+    pub execution: u16,
+}
+
+// What the readers of commands without data hand back.
+#[repr(C)]
+pub struct ReadEmpty {
+    pub used: usize,
+    pub answer: u16,
+    pub packet: u16,
+    pub command: u16,
+    pub size: u16,
+}
+
+// What the readers of acknowledgements with a result alone hand back.
+#[repr(C)]
+pub struct ReadResult {
+    pub used: usize,
+    pub answer: u16,
+    pub packet: u16,
+    pub command: u16,
+    pub size: u8,
+    pub result: i8,
+}
+
+const NO_LIST: ChannelList = ChannelList {
+    factor: 0,
+    active: 0,
+    lf: 0,
+    inter: 0,
+    main: 0,
+    execution: 0,
+};
+
+fn values_of(c: Command) -> Values
+    ensures { λ r. ⌜ r ≡ valuesOf c ⌝ }
+{
+    let none = NO_LIST;
+    let nothing = Values {
+        version: 0,
+        echo: 0,
+        mode: 0,
+        result: 0,
+        list: none,
+    };
+    match c {
+        Command::Init { version } => Values {
+            version,
+            echo: 0,
+            mode: 0,
+            result: 0,
+            list: none,
+        },
+        Command::InitAck { result } => Values {
+            version: 0,
+            echo: 0,
+            mode: 0,
+            result,
+            list: none,
+        },
+        Command::UnknownCommand { echo } => Values {
+            version: 0,
+            echo,
+            mode: 0,
+            result: 0,
+            list: none,
+        },
+        Command::GetStimulationModeAck { result, mode } => Values {
+            version: 0,
+            echo: 0,
+            mode,
+            result,
+            list: none,
+        },
+        Command::InitChannelListMode { list } => Values {
+            version: 0,
+            echo: 0,
+            mode: 0,
+            result: 0,
+            list,
+        },
+        Command::InitChannelListModeAck { result } => Values {
+            version: 0,
+            echo: 0,
+            mode: 0,
+            result,
+            list: none,
+        },
+        Command::Watchdog => nothing,
+        Command::GetStimulationMode => nothing,
+        Command::Other { number: _ } => nothing,
+    }
+}
+
+fn report(r: Read) -> ReadPacket
+    ensures { λ p. ⌜ p ≡ asPacket r ⌝ }
+{
+    let c = r.command;
+    let v = values_of(c);
+    let list = v.list;
+    ReadPacket {
+        used: r.used,
+        answer: r.answer,
+        packet: r.packet,
+        command: commands2::number(c),
+        size: r.size,
+        version: v.version,
+        echo: v.echo,
+        mode: v.mode,
+        result: v.result,
+        factor: list.factor,
+        active: list.active,
+        lf: list.lf,
+        inter: list.inter,
+        main: list.main,
+        execution: list.execution as u16,
+    }
+}
+
+#[no_mangle]
+pub extern "C" fn yarrowbell_rehastim2_read(s: &[u8], out: &mut [u8]) -> ReadPacket
+    ensures { λ r. ⌜ (r ≡ asPacket (readPacket (now (s .entry)) (length (now (out .entry))))) × (now (out .exit) ≡ dataPut (now (s .entry)) (now (out .entry))) ⌝ }
+{
+    report(reader2::read_packet(s, out))
+}
