@@ -7,8 +7,8 @@ use std::path::{Path, PathBuf};
 use std::process::Command;
 use std::{env, fs};
 
-/// One name in a line: the frames, the packets read and written, the ring and the box by value; the box lent by
-/// reference.
+/// One name in a line: the frames, the packets read and written, the ring and the box by value; the
+/// box lent by reference.
 const LIBRARIES: &str = include_str!("libraries");
 
 fn main() {
