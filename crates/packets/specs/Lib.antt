@@ -1,0 +1,3 @@
+pub mod Generation
+pub mod Reader
+pub mod Writer
