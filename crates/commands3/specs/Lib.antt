@@ -1,0 +1,3 @@
+pub mod Points
+pub mod Commands
+pub mod Contents
