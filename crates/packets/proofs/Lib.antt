@@ -1,0 +1,16 @@
+pub mod Readings
+pub mod Writings
+pub mod Tests
+pub mod Written
+pub mod Demand1
+pub mod WhichAnswers
+pub mod Behind
+pub mod Content
+pub mod Ends
+pub mod Bytes
+pub mod RestUnused
+pub mod Room
+pub mod Along
+pub mod Row
+pub mod ReadsBack
+pub mod WritesBack
