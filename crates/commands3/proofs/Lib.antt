@@ -1,2 +1,7 @@
 pub mod Fronts
 pub mod Points
+pub mod Configs
+pub mod EachCommand
+pub mod Heads
+pub mod DataBytes
+pub mod RoundTrip
