@@ -5,3 +5,4 @@ pub mod EachCommand
 pub mod Heads
 pub mod DataBytes
 pub mod RoundTrip
+pub mod Examples
