@@ -1,0 +1,4 @@
+pub mod Sizes
+pub mod Points
+pub mod Theorems
+pub mod Examples
