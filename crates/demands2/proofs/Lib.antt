@@ -1,15 +1,7 @@
-pub mod Readings
-pub mod Writings
 pub mod Demand1
 pub mod WhichAnswers
-pub mod Behind
-pub mod Content
 pub mod ReadsBack
-pub mod Ends
-pub mod Bytes
 pub mod WritesBack
 pub mod RestUnused
-pub mod Room
-pub mod Along
 pub mod Row
 pub mod Examples

@@ -1,4 +1,3 @@
-pub mod Line
 pub mod Demand1
 pub mod WhichAnswers
 pub mod RoundTrips

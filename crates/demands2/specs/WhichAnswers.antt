@@ -2,13 +2,14 @@
 use Prim.Native.Nat.{ℕ}
 use mathlib.Core.List.{List, [], _∷_}
 use Rattle.commands.specs.Answers.{Gives}
+use Rattle.packets.specs.Reader.{reading}
 use Rattle.commands2.specs.declared.Command.{Command}
-use Rattle.reader2.specs.Reader.{readPacket}
+use Rattle.packets2.specs.Rehastim2.{rehastim2}
 use Rattle.writer2.specs.Writer.{wrote}
 
 -- bytes, and how much room the output has
 abbrev pub ofReader : List ℕ × ℕ → ℕ
-ofReader x = readPacket (x .0) (x .1) .answer
+ofReader x = reading rehastim2 (x .0) (x .1) .answer
 
 -- a packet number, a command and an output
 abbrev pub ofWriter : ℕ × Command × List ℕ → ℕ

@@ -5,7 +5,9 @@ use crate::result;
 use commands2::numbers;
 ghost use mathlib.Core.Path.{_≡_};
 ghost use lib.ListN.{length};
-ghost use Rattle.reader2.specs.Reader.{readPacket, dataPut};
+ghost use Rattle.packets.specs.Reader.{dataPut};
+ghost use Rattle.packets2.specs.Rehastim2.{rehastim2};
+ghost use Rattle.reader2.specs.Reader.{readPacket};
 ghost use Rattle.packet_readers.specs.Reports.{asPacket, asVersion, asResult};
 
 #[repr(C)]
@@ -20,7 +22,7 @@ pub struct ReadVersion {
 
 #[no_mangle]
 pub extern "C" fn yarrowbell_rehastim2_read_init(s: &[u8], out: &mut [u8]) -> ReadVersion
-    ensures { λ r. ⌜ (r ≡ asVersion (asPacket (readPacket (now (s .entry)) (length (now (out .entry)))))) × (now (out .exit) ≡ dataPut (now (s .entry)) (now (out .entry))) ⌝ }
+    ensures { λ r. ⌜ (r ≡ asVersion (asPacket (readPacket (now (s .entry)) (length (now (out .entry)))))) × (now (out .exit) ≡ dataPut rehastim2 (now (s .entry)) (now (out .entry))) ⌝ }
 {
     let p = packet::yarrowbell_rehastim2_read(s, out);
     ReadVersion {
@@ -35,7 +37,7 @@ pub extern "C" fn yarrowbell_rehastim2_read_init(s: &[u8], out: &mut [u8]) -> Re
 
 #[no_mangle]
 pub extern "C" fn yarrowbell_rehastim2_read_init_ack(s: &[u8], out: &mut [u8]) -> ReadResult
-    ensures { λ r. ⌜ (r ≡ asResult 2 (asPacket (readPacket (now (s .entry)) (length (now (out .entry)))))) × (now (out .exit) ≡ dataPut (now (s .entry)) (now (out .entry))) ⌝ }
+    ensures { λ r. ⌜ (r ≡ asResult 2 (asPacket (readPacket (now (s .entry)) (length (now (out .entry)))))) × (now (out .exit) ≡ dataPut rehastim2 (now (s .entry)) (now (out .entry))) ⌝ }
 {
     let p = packet::yarrowbell_rehastim2_read(s, out);
     ReadResult {

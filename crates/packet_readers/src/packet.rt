@@ -4,7 +4,9 @@ use commands2::Command;
 use reader2::Read;
 ghost use mathlib.Core.Path.{_≡_};
 ghost use lib.ListN.{length};
-ghost use Rattle.reader2.specs.Reader.{readPacket, dataPut};
+ghost use Rattle.packets.specs.Reader.{dataPut};
+ghost use Rattle.packets2.specs.Rehastim2.{rehastim2};
+ghost use Rattle.reader2.specs.Reader.{readPacket};
 ghost use Rattle.packet_readers.specs.Reports.{valuesOf, asPacket};
 
 // The values of a command, zero where it has none of that kind.
@@ -152,7 +154,7 @@ fn report(r: Read) -> ReadPacket
 
 #[no_mangle]
 pub extern "C" fn yarrowbell_rehastim2_read(s: &[u8], out: &mut [u8]) -> ReadPacket
-    ensures { λ r. ⌜ (r ≡ asPacket (readPacket (now (s .entry)) (length (now (out .entry))))) × (now (out .exit) ≡ dataPut (now (s .entry)) (now (out .entry))) ⌝ }
+    ensures { λ r. ⌜ (r ≡ asPacket (readPacket (now (s .entry)) (length (now (out .entry))))) × (now (out .exit) ≡ dataPut rehastim2 (now (s .entry)) (now (out .entry))) ⌝ }
 {
     report(reader2::read_packet(s, out))
 }

@@ -6,13 +6,12 @@ use Prim.Native.Nat.{ℕ, _≤_, _<_}
 use native.Mathlib.Omega.{arith}
 use lib.ListN.{length, drop}
 use borrow.Author.Tests.{eq-eqb, ne-eqb, le-ltb, lt-ltb}
-use Rattle.commands.specs.Answers.{firstOf}
 use Rattle.stuffing.specs.Stuffing.{stuffed, pairsGood}
 use Rattle.stuffing.proofs.RoundTrip.{unstuffed-stuffed, stuffed-good}
 use Rattle.framing.specs.declared.Found.{Found}
 use Rattle.framing.specs.Scan.{firstFound, bodyAt}
 use Rattle.packets.specs.Generation.{Generation}
-use Rattle.packets.specs.Reader.{Reading, plain, covered, coveredTests, bodyAnswer, refused, answered, reading, put, dataPut}
+use Rattle.packets.specs.Reader.{Reading, plain, covered, coveredAnswer, bodyAnswer, refused, answered, reading, put, dataPut}
 
 module _ {C : Type 0} (g : Generation C) where
   -- what is handed back and left where the answer is a, for covered bytes c
@@ -20,7 +19,7 @@ module _ {C : Type 0} (g : Generation C) where
   Gives r left a c out used = (r ≡ answered g a c used) × (left ≡ put a c out)
 
   abbrev pub GivesCovered : Reading C → List ℕ → List ℕ → List ℕ → ℕ → Type 0
-  GivesCovered r left c out used = Gives r left (firstOf (coveredTests g c (length out))) c out used
+  GivesCovered r left c out used = Gives r left (coveredAnswer g c (length out)) c out used
 
   -- ---- covered bytes
 
@@ -70,7 +69,7 @@ module _ {C : Type 0} (g : Generation C) where
       unfolding answered put
       wrong-length f = (rw (e, f), rw (e, f))
 
-      pub by-covered : g .lengthRight b ≡ true → firstOf (coveredTests g (covered g b) (length out)) ≡ bodyAnswer g b (length out)
+      pub by-covered : g .lengthRight b ≡ true → coveredAnswer g (covered g b) (length out) ≡ bodyAnswer g b (length out)
       by-covered f = rw (e, f)
 
   -- ---- any bytes, in which f is found

@@ -40,6 +40,9 @@ module _ {C : Type 0} (g : Generation C) where
       ∷ 16 when ltb room (length (dataIn c))
       ∷ []
 
+  abbrev pub coveredAnswer : List ℕ → ℕ → ℕ
+  coveredAnswer c room = firstOf (coveredTests c room)
+
   -- wrong or missing checksum (3); wrong length (4); then the covered bytes
   abbrev pub bodyTests : List ℕ → ℕ → List Test
   bodyTests body room = 3 when not (g .checkRight body) ∷ 4 when not (g .lengthRight body) ∷ coveredTests (covered body) room

@@ -9,7 +9,7 @@ use lib.Dec.{eqb, ltb}
 use lib.ListN.{length, drop, getD, length-drop, drop-of-length-le, List·getD-eq-default}
 use borrow.Author.Tests.{ltb-true, ltb-false}
 use Rattle.crc.specs.Crc.{crc, crc8}
-use Rattle.reader2.specs.Reader.{checkRight, lengthRight}
+use Rattle.packets2.specs.Rehastim2.{checkRight, lengthRight}
 
 and-false : (t : Bool) → t && false ≡ false
 and-false true = refl

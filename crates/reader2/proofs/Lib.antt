@@ -1,4 +1,3 @@
 pub mod Header
 pub mod FirstBytes
 pub mod Covered
-pub mod Tests

@@ -4,16 +4,13 @@ use commands2::Command;
 use stuffing::KEY;
 use stuffing::STUFFING;
 ghost use mathlib.Core.Path.{_≡_};
-ghost use mathlib.Core.Bool.{true, cond};
-ghost use mathlib.Core.List.{_++_};
-ghost use Prim.Native.Nat.{_≤_};
-ghost use lib.Dec.{ltb};
-ghost use lib.ListN.{length, getD, drop};
-ghost use lib.Seq.{sets};
-ghost use Rattle.commands.specs.Answers.{firstOf};
+ghost use mathlib.Core.Bool.{true};
+ghost use lib.ListN.{length, drop};
 ghost use Rattle.stuffing.specs.Stuffing.{stuffed};
-ghost use Rattle.commands2.specs.Commands.{commandOf};
-ghost use Rattle.reader2.specs.Reader.{covered, checkRight, lengthRight, sizeGood, dataIn, coveredTests, bodyAnswer, refused, found, answered, put, readPacket, dataPut};
+ghost use Rattle.commands2.specs.Commands.{right};
+ghost use Rattle.packets.specs.Reader.{covered, coveredAnswer, bodyAnswer, refused, answered, put, dataPut};
+ghost use Rattle.packets2.specs.Rehastim2.{checkRight, lengthRight, sizeGood, commandIn, rehastim2};
+ghost use Rattle.reader2.specs.Reader.{asRead, readPacket};
 
 // What reading a packet reports: its answer, the bytes used, the packet number, the command, and how many data bytes it put to the output.
 pub struct Read {
@@ -25,7 +22,7 @@ pub struct Read {
 }
 
 fn refuse(answer: u8, used: usize) -> Read
-    ensures { λ r. ⌜ r ≡ refused answer used ⌝ }
+    ensures { λ r. ⌜ r ≡ asRead (refused rehastim2 answer used) ⌝ }
 {
     let command = Command::Other { number: 0 };
     Read {
@@ -67,52 +64,30 @@ fn size_good(n: usize) -> bool
     (2 <= n) & (n <= 62)
 }
 
-// The byte at a place, 0 behind the last.
-fn byte_at(p: &[u8], i: usize) -> u8
-    ensures { λ r. ⌜ r ≡ getD (now (p .entry)) i 0 ⌝ }
-{
-    if i < p.len() {
-        return p[i];
-    }
-    0
-}
-
 // The command whose number and values stand behind the packet number.
 fn command_in(p: &[u8]) -> Command
-    ensures { λ r. ⌜ r ≡ commandOf (getD (now (p .entry)) 1 0) (drop 2 (now (p .entry))) ⌝ }
+    ensures { λ r. ⌜ r ≡ commandIn (now (p .entry)) ⌝ }
 {
     let d = [
-        byte_at(p, 2),
-        byte_at(p, 3),
-        byte_at(p, 4),
-        byte_at(p, 5),
-        byte_at(p, 6),
-        byte_at(p, 7),
-        byte_at(p, 8),
+        slices::byte_at(p, 2),
+        slices::byte_at(p, 3),
+        slices::byte_at(p, 4),
+        slices::byte_at(p, 5),
+        slices::byte_at(p, 6),
+        slices::byte_at(p, 7),
+        slices::byte_at(p, 8),
     ];
-    commands2::command_of(byte_at(p, 1), d)
-}
-
-// Puts bytes to the start of out.
-fn copy(out: &mut [u8], bytes: &[u8])
-    requires { ⌜ length (now bytes) ≤ length (now out) ⌝ }
-    ensures { λ _. ⌜ now (out .exit) ≡ sets (now (out .entry)) 0 (now (bytes .entry)) ⌝ }
-{
-    let mut i = 0;
-    while i < bytes.len() {
-        out[i] = bytes[i];
-        i += 1;
-    }
+    commands2::command_of(slices::byte_at(p, 1), d)
 }
 
 // A packet that passes every test but the room's; p is what its covered bytes stand for.
 fn read_data(p: &[u8], command: Command, out: &mut [u8], used: usize) -> Read
-    requires { ⌜ (sizeGood (length (now p)) ≡ true) × (command ≡ commandOf (getD (now p) 1 0) (drop 2 (now p))) ⌝ }
-    ensures { λ r. ⌜ (r ≡ cond (ltb (length (now (out .entry))) (length (dataIn (stuffed (now (p .entry)))))) (refused 16 0) (found (stuffed (now (p .entry))) used)) × (now (out .exit) ≡ cond (ltb (length (now (out .entry))) (length (dataIn (stuffed (now (p .entry)))))) (now (out .entry)) (dataIn (stuffed (now (p .entry))) ++ drop (length (dataIn (stuffed (now (p .entry))))) (now (out .entry)))) ⌝ }
+    requires { ⌜ (sizeGood (length (now p)) ≡ true) × (right (commandIn (now p)) (length (drop 2 (now p))) ≡ true) × (command ≡ commandIn (now p)) ⌝ }
+    ensures { λ r. ⌜ (r ≡ asRead (answered rehastim2 (coveredAnswer rehastim2 (stuffed (now (p .entry))) (length (now (out .entry)))) (stuffed (now (p .entry))) used)) × (now (out .exit) ≡ put (coveredAnswer rehastim2 (stuffed (now (p .entry))) (length (now (out .entry)))) (stuffed (now (p .entry))) (now (out .entry))) ⌝ }
 {
     let size = p.len() - 2;
     if size <= out.len() {
-        copy(out, &p[2..]);
+        slices::copy(out, &p[2..]);
         return Read {
             answer: answers::DONE,
             used,
@@ -126,7 +101,7 @@ fn read_data(p: &[u8], command: Command, out: &mut [u8], used: usize) -> Read
 
 // A packet whose covered bytes are those that the writer makes of p.
 fn read_plain(p: &[u8], out: &mut [u8], used: usize) -> Read
-    ensures { λ r. ⌜ (r ≡ answered (firstOf (coveredTests (stuffed (now (p .entry))) (length (now (out .entry))))) (stuffed (now (p .entry))) used) × (now (out .exit) ≡ put (firstOf (coveredTests (stuffed (now (p .entry))) (length (now (out .entry))))) (stuffed (now (p .entry))) (now (out .entry))) ⌝ }
+    ensures { λ r. ⌜ (r ≡ asRead (answered rehastim2 (coveredAnswer rehastim2 (stuffed (now (p .entry))) (length (now (out .entry)))) (stuffed (now (p .entry))) used)) × (now (out .exit) ≡ put (coveredAnswer rehastim2 (stuffed (now (p .entry))) (length (now (out .entry)))) (stuffed (now (p .entry))) (now (out .entry))) ⌝ }
 {
     let n = p.len();
     if size_good(n) {
@@ -141,7 +116,7 @@ fn read_plain(p: &[u8], out: &mut [u8], used: usize) -> Read
 
 // Covered bytes. Where none is special they stand for themselves.
 fn read_covered(c: &[u8], out: &mut [u8], used: usize) -> Read
-    ensures { λ r. ⌜ (r ≡ answered (firstOf (coveredTests (now (c .entry)) (length (now (out .entry))))) (now (c .entry)) used) × (now (out .exit) ≡ put (firstOf (coveredTests (now (c .entry)) (length (now (out .entry))))) (now (c .entry)) (now (out .entry))) ⌝ }
+    ensures { λ r. ⌜ (r ≡ asRead (answered rehastim2 (coveredAnswer rehastim2 (now (c .entry)) (length (now (out .entry)))) (now (c .entry)) used)) × (now (out .exit) ≡ put (coveredAnswer rehastim2 (now (c .entry)) (length (now (out .entry)))) (now (c .entry)) (now (out .entry))) ⌝ }
 {
     if stuffing::any_special(c) {
         let mut plain = [0; 62];
@@ -156,7 +131,7 @@ fn read_covered(c: &[u8], out: &mut [u8], used: usize) -> Read
 }
 
 fn read_body(b: &[u8], out: &mut [u8], used: usize) -> Read
-    ensures { λ r. ⌜ (r ≡ answered (bodyAnswer (now (b .entry)) (length (now (out .entry)))) (covered (now (b .entry))) used) × (now (out .exit) ≡ put (bodyAnswer (now (b .entry)) (length (now (out .entry)))) (covered (now (b .entry))) (now (out .entry))) ⌝ }
+    ensures { λ r. ⌜ (r ≡ asRead (answered rehastim2 (bodyAnswer rehastim2 (now (b .entry)) (length (now (out .entry)))) (covered rehastim2 (now (b .entry))) used)) × (now (out .exit) ≡ put (bodyAnswer rehastim2 (now (b .entry)) (length (now (out .entry)))) (covered rehastim2 (now (b .entry))) (now (out .entry))) ⌝ }
 {
     if check_right(b) {
         if length_right(b) {
@@ -169,7 +144,7 @@ fn read_body(b: &[u8], out: &mut [u8], used: usize) -> Read
 
 // Reads the first packet that is finished in s, and puts its data to the start of out.
 pub fn read_packet(s: &[u8], out: &mut [u8]) -> Read
-    ensures { λ r. ⌜ (r ≡ readPacket (now (s .entry)) (length (now (out .entry)))) × (now (out .exit) ≡ dataPut (now (s .entry)) (now (out .entry))) ⌝ }
+    ensures { λ r. ⌜ (r ≡ readPacket (now (s .entry)) (length (now (out .entry)))) × (now (out .exit) ≡ dataPut rehastim2 (now (s .entry)) (now (out .entry))) ⌝ }
 {
     let f = framing::find(s);
     let body = f.body;

@@ -2,5 +2,5 @@ pub mod Tests
 pub mod Bytes
 pub mod Laws
 pub mod RoundTrip
-pub mod Overlay
 pub mod Examples
+pub mod Buffer

@@ -1,2 +1,1 @@
 pub mod Stuffing
-pub mod Overlay

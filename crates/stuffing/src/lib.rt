@@ -4,7 +4,7 @@ ghost use mathlib.Core.Bool.{false, cond};
 ghost use lib.Bits.{bitXor};
 ghost use lib.ListN.{length, set};
 ghost use Rattle.stuffing.specs.Stuffing.{stuffingKey, special, anySpecial, stuffedByte, stuffed, opensPair, wrongIn, pairsGood, unstuffed};
-ghost use Rattle.stuffing.specs.Overlay.{overlay};
+ghost use Rattle.slices.specs.Overlay.{overlay};
 
 // Source 000, table 6.
 pub const START: u8 = 240;

@@ -1,22 +1,20 @@
--- What the writer answers and leaves, by the bytes that were written. Assumes nothing.
+-- What is written of a command, and how long it is. Assumes nothing.
 use mathlib.Core.Path.{_≡_, refl, ap, ap₂, _∙_}
-use mathlib.Core.Bool.{Bool, true, false, cond, not}
 use mathlib.Core.List.{List, [], _∷_, _++_}
 use Prim.Native.Nat.{ℕ, zero, suc, _+_, _≤_, _<_}
 use native.Mathlib.Omega.{arith}
-use lib.Dec.{leb, ltb}
 use lib.ListN.{length, take, drop, getD, replicate, length-append, length-take}
-use borrow.Author.Tests.{leb-true, leb-false, le-ltb, lt-ltb}
 use Rattle.stuffing.specs.Stuffing.{stuffed}
 use Rattle.stuffing.proofs.Laws.{size-le}
-use Rattle.framing.specs.Packet.{sizeWritten, writtenTo}
+use Rattle.framing.specs.Packet.{packetOf}
 use Rattle.framing.proofs.Writing.{length-packet}
 use Rattle.commands2.specs.declared.Command.{Command}
 use Rattle.commands2.specs.declared.Data.{Data}
 use Rattle.commands2.specs.ByValue.{byValue, dataByValue}
-use Rattle.commands2.specs.Commands.{numberOf, dataOf, good}
+use Rattle.commands2.specs.Commands.{numberOf, dataOf}
 use Rattle.commands2.proofs.DataBytes.{length-data-le}
-use Rattle.writer2.specs.Writer.{headerOf, framed, contentOf, packetBytes, wrote, written}
+use Rattle.packets2.specs.Rehastim2.{headerOf}
+use Rattle.writer2.specs.Writer.{contentOf}
 
 length-stuffed-le : (l : List ℕ) → length (stuffed l) ≤ length l + length l
 unfolding stuffed
@@ -70,52 +68,8 @@ module _ (packet number : ℕ) (c : Command) (m : number ≡ numberOf c) (r : Da
       let k : length (r .bytes) ≡ 7 = ap length (data-bytes r c e) ∙ simp (length-take, length-append) (omega arith) in
       omega (arith, ap length f, k, data-size r c e, length-data-le c)
 
-module _ (packet : ℕ) (c : Command) where
-  -- at most 1 + 4 + 18 + 1 bytes
-  packet-small : length (packetBytes packet c) < 256
-  unfolding framed headerOf
-  packet-small =
-      omega (arith, length-packet (headerOf (contentOf packet c)) (contentOf packet c), length-stuffed-le (contentOf packet c), length-data-le c)
-
-  packet-some : 0 < length (packetBytes packet c)
-  unfolding framed headerOf
-  packet-some = omega (arith, length-packet (headerOf (contentOf packet c)) (contentOf packet c))
-
-  module _ (out : List ℕ) where
-    pub not-good : good c ≡ false → (record { answer = 4; used = 0 } ≡ wrote packet c out) × (out ≡ written packet c out)
-    unfolding wrote written
-    not-good e = (rw e, rw e)
-
-    module _ (e : good c ≡ true) where
-      pub too-short : sizeWritten out (headerOf (contentOf packet c)) (contentOf packet c) ≡ 0
-          → (record { answer = 16; used = 0 } ≡ wrote packet c out)
-          × (writtenTo out (headerOf (contentOf packet c)) (contentOf packet c) ≡ written packet c out)
-      unfolding sizeWritten writtenTo wrote written framed
-      too-short z = by (leb (length (packetBytes packet c)) (length out)) refl z
-        where
-          by : (t : Bool) → leb (length (packetBytes packet c)) (length out) ≡ t → cond t (length (packetBytes packet c)) 0 ≡ 0
-              → (record { answer = 16; used = 0 } ≡ wrote packet c out)
-              × (cond t (packetBytes packet c ++ drop (length (packetBytes packet c)) out) out ≡ written packet c out)
-          by true p z = absurd (omega (arith, packet-some))
-          by false p z = let q = lt-ltb (length out) (length (packetBytes packet c)) (leb-false _ _ p) in (rw (e, q), rw (e, q))
-
-      pub fits : (sizeWritten out (headerOf (contentOf packet c)) (contentOf packet c) ≡ 0 → ⊥)
-          → (record { answer = 0; used = sizeWritten out (headerOf (contentOf packet c)) (contentOf packet c) } ≡ wrote packet c out)
-          × (writtenTo out (headerOf (contentOf packet c)) (contentOf packet c) ≡ written packet c out)
-      unfolding sizeWritten writtenTo wrote written framed
-      fits z = by (leb (length (packetBytes packet c)) (length out)) refl z
-        where
-          by : (t : Bool) → leb (length (packetBytes packet c)) (length out) ≡ t → (cond t (length (packetBytes packet c)) 0 ≡ 0 → ⊥)
-              → (record { answer = 0; used = cond t (length (packetBytes packet c)) 0 } ≡ wrote packet c out)
-              × (cond t (packetBytes packet c ++ drop (length (packetBytes packet c)) out) out ≡ written packet c out)
-          by true p z = let q = le-ltb (length out) (length (packetBytes packet c)) (leb-true _ _ p) in (rw (e, q), rw (e, q))
-          by false p z = absurd (z refl)
-
-    -- the bytes written fit one byte
-    pub size-small : sizeWritten out (headerOf (contentOf packet c)) (contentOf packet c) < 256
-    unfolding sizeWritten framed
-    size-small = by (leb (length (packetBytes packet c)) (length out))
-      where
-        by : (t : Bool) → cond t (length (packetBytes packet c)) 0 < 256
-        by true = packet-small
-        by false = omega arith
+-- at most 1 + 4 + 18 + 1 bytes
+pub packet-small : (packet : ℕ) (c : Command) → length (packetOf (headerOf (contentOf packet c)) (contentOf packet c)) < 256
+unfolding headerOf
+packet-small packet c =
+    omega (arith, length-packet (headerOf (contentOf packet c)) (contentOf packet c), length-stuffed-le (contentOf packet c), length-data-le c)

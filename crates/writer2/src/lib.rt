@@ -11,7 +11,8 @@ ghost use lib.ListN.{length};
 ghost use Rattle.crc.specs.Crc.{crc8};
 ghost use Rattle.stuffing.specs.Stuffing.{stuffed};
 ghost use Rattle.framing.specs.Packet.{sizeWritten, writtenTo};
-ghost use Rattle.writer2.specs.Writer.{headerOf, contentOf, wrote, written};
+ghost use Rattle.packets2.specs.Rehastim2.{headerOf};
+ghost use Rattle.writer2.specs.Writer.{contentOf, wrote, written};
 
 // What the header tells of the bytes behind it: their checksum, and how many they are.
 struct Told {

@@ -7,7 +7,7 @@ use Rattle.reader2.proofs.command_in.Tie as tie
 use Rattle.reader2.proofs.command_in.Reads as reads
 use Rattle.reader2.proofs.command_in.Lts as lts
 use Rattle.commands2.proofs.command_of.Reads as command-of-reads
-use Rattle.reader2.proofs.byte_at.Reads as byte-at-reads
+use Rattle.slices.proofs.byte_at.Reads as byte-at-reads
 
 byte-at-requires : tie.Need-byte-at-requires
 byte-at-requires c κs = search needs

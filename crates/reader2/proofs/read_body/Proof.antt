@@ -5,10 +5,11 @@ use Prim.Native.Nat.{ℕ, _-_}
 use native.Mathlib.Omega.{arith}
 use lib.ListN.{length, drop, take, length-drop}
 use lib.Seq.{take-all}
-use Rattle.commands.specs.Answers.{firstOf}
-use Rattle.reader2.specs.Reader.{coveredTests, answered, put}
+use Rattle.packets.specs.Reader.{coveredAnswer, answered, put}
+use Rattle.packets.proofs.Tests.{wrong-check, wrong-length, by-covered}
+use Rattle.packets2.specs.Rehastim2.{rehastim2}
+use Rattle.reader2.specs.Reader.{asRead}
 use Rattle.reader2.proofs.Header.{length-long}
-use Rattle.reader2.proofs.Tests.{wrong-check, wrong-length, by-covered}
 use borrow.Author.Needs.{needs}
 use Rattle.reader2.proofs.read_body.Statement.{statement}
 use Rattle.reader2.proofs.read_body.Tie as tie
@@ -46,10 +47,10 @@ returns c =
     let b = a .b .now in
     let out = a .out .now in
     let r = c .before .before .read-covered .ensures in
-    let e = by-covered b out (a .used) (sym (c .before .before .before .before .before .before .before .before .check-right .ensures) ∙ c .before .before .before .before .before .before .before .if1 .taken) (sym (c .before .before .before .before .before .before .length-right .ensures) ∙ c .before .before .before .before .before .if2 .taken) in
+    let e = by-covered rehastim2 b out (a .used) (sym (c .before .before .before .before .before .before .before .before .check-right .ensures) ∙ c .before .before .before .before .before .before .before .if1 .taken) (sym (c .before .before .before .before .before .before .length-right .ensures) ∙ c .before .before .before .before .before .if2 .taken) in
     let p : take (length b - 4) (drop 4 b) ≡ drop 4 b = take-all (length b - 4) (drop 4 b) (rw length-drop (omega arith)) in (
-      r .0 ∙ ap (λ (l : List ℕ). answered (firstOf (coveredTests l (length out))) l (a .used)) p ∙ ap (λ (n : ℕ). answered n (drop 4 b) (a .used)) e,
-      r .1 ∙ ap (λ (l : List ℕ). put (firstOf (coveredTests l (length out))) l out) p ∙ ap (λ (n : ℕ). put n (drop 4 b) out) e,
+      r .0 ∙ ap (λ (l : List ℕ). asRead (answered rehastim2 (coveredAnswer rehastim2 l (length out)) l (a .used))) p ∙ ap (λ (n : ℕ). asRead (answered rehastim2 n (drop 4 b) (a .used))) e,
+      r .1 ∙ ap (λ (l : List ℕ). put (coveredAnswer rehastim2 l (length out)) l out) p ∙ ap (λ (n : ℕ). put n (drop 4 b) out) e,
     )
 
 refuse-requires : tie.Need-refuse-requires
@@ -58,8 +59,8 @@ refuse-requires c κs = search needs
 returns-2 : tie.Need-returns-2
 returns-2 c =
     let a = c .before .before .before .before .before .before .before .args in
-    let f = wrong-length (a .b .now) (a .out .now) (a .used) (sym (c .before .before .before .before .check-right .ensures) ∙ c .before .before .before .if1 .taken) (sym (c .before .before .length-right .ensures) ∙ c .before .if2 .left) in
-    (c .refuse .ensures ∙ f .0, f .1)
+    let f = wrong-length rehastim2 (a .b .now) (a .out .now) (a .used) (sym (c .before .before .before .before .check-right .ensures) ∙ c .before .before .before .if1 .taken) (sym (c .before .before .length-right .ensures) ∙ c .before .if2 .left) in
+    (c .refuse .ensures ∙ ap asRead (f .0), f .1)
 
 refuse-requires-2 : tie.Need-refuse-requires-2
 refuse-requires-2 c κs = search needs
@@ -67,8 +68,8 @@ refuse-requires-2 c κs = search needs
 returns-3 : tie.Need-returns-3
 returns-3 c =
     let a = c .before .before .before .before .before .args in
-    let f = wrong-check (a .b .now) (a .out .now) (a .used) (sym (c .before .before .check-right .ensures) ∙ c .before .if1 .left) in
-    (c .refuse2 .ensures ∙ f .0, f .1)
+    let f = wrong-check rehastim2 (a .b .now) (a .out .now) (a .used) (sym (c .before .before .check-right .ensures) ∙ c .before .if1 .left) in
+    (c .refuse2 .ensures ∙ ap asRead (f .0), f .1)
 
 pub read-body-spec : {M : Type 1} → statement M
 read-body-spec =

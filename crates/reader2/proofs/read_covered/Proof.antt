@@ -5,12 +5,13 @@ use Prim.Native.Nat.{ℕ}
 use native.Mathlib.Omega.{arith}
 use lib.ListN.{length}
 use lib.Seq.{length-take-le}
-use Rattle.commands.specs.Answers.{firstOf}
-use Rattle.stuffing.specs.Stuffing.{stuffed}
 use Rattle.stuffing.proofs.Laws.{none-stuffed}
-use Rattle.reader2.specs.Reader.{coveredTests, answered, put}
-use Rattle.reader2.proofs.Covered.{short-enough, prefix, written-again, not-passed}
-use Rattle.reader2.proofs.Tests.{wrong-pairs}
+use Rattle.stuffing.proofs.Buffer.{front-stuffed}
+use Rattle.packets.specs.Reader.{coveredAnswer, answered, put}
+use Rattle.packets.proofs.Tests.{wrong-pairs}
+use Rattle.packets2.specs.Rehastim2.{rehastim2}
+use Rattle.reader2.specs.Reader.{asRead}
+use Rattle.reader2.proofs.Covered.{taken-both, not-passed}
 use borrow.Author.Needs.{needs}
 use Rattle.reader2.proofs.read_covered.Statement.{statement}
 use Rattle.reader2.proofs.read_covered.Tie as tie
@@ -31,10 +32,10 @@ unstuff-requires : tie.Need-unstuff-requires
 unstuff-requires c κs = search needs
 
 array-share-prefix-plain : tie.Need-array-share-prefix-plain
-array-share-prefix-plain c = omega (arith, short-enough _ _ (c .before .before .before .unstuff .ensures .0) (c .if2 .taken), c .before .before .before .unstuff .kept .0)
+array-share-prefix-plain c = omega (arith, taken-both (c .before .before .before .unstuff .result) (c .if2 .taken) .1, c .before .before .before .unstuff .kept .0)
 
 slice-aggregate-read-plain : tie.Need-slice-aggregate-read-plain
-slice-aggregate-read-plain c = sym (length-take-le _ _ (omega (arith, short-enough _ _ (c .before .before .before .before .unstuff .ensures .0) (c .before .if2 .taken), c .before .before .before .before .unstuff .kept .0)))
+slice-aggregate-read-plain c = sym (length-take-le _ _ (omega (arith, taken-both (c .before .before .before .before .unstuff .result) (c .before .if2 .taken) .1, c .before .before .before .before .unstuff .kept .0)))
 
 read-plain-requires : tie.Need-read-plain-requires
 read-plain-requires c κs = search needs
@@ -49,10 +50,11 @@ returns c =
     let out = a .out .now in
     let u = c .before .before .before .before .before .before .before .before .unstuff in
     let t = c .before .before .before .before .before .if2 .taken in
-    let same = ap stuffed (prefix b _ (u .ensures .0) t _ (u .ensures .1)) ∙ written-again b _ (u .ensures .0) t in
+    let both = taken-both (u .result) t in
+    let same = front-stuffed b 62 (u .result) (u .ensures .0) (both .0) (both .1) _ (u .ensures .1) in
     let r = c .before .before .read-plain .ensures in (
-      r .0 ∙ ap (λ (l : List ℕ). answered (firstOf (coveredTests l (length out))) l (a .used)) same,
-      r .1 ∙ ap (λ (l : List ℕ). put (firstOf (coveredTests l (length out))) l out) same,
+      r .0 ∙ ap (λ (l : List ℕ). asRead (answered rehastim2 (coveredAnswer rehastim2 l (length out)) l (a .used))) same,
+      r .1 ∙ ap (λ (l : List ℕ). put (coveredAnswer rehastim2 l (length out)) l out) same,
     )
 
 refuse-requires : tie.Need-refuse-requires
@@ -61,8 +63,8 @@ refuse-requires c κs = search needs
 returns-2 : tie.Need-returns-2
 returns-2 c =
     let a = c .before .before .before .before .before .before .before .before .before .before .args in
-    let g = wrong-pairs (a .c .now) (a .out .now) (a .used) (not-passed (a .c .now) _ (c .before .before .before .before .unstuff .ensures .0) (c .before .if2 .left)) in
-    (c .refuse .ensures ∙ g .0, g .1)
+    let g = wrong-pairs rehastim2 (a .c .now) (a .out .now) (a .used) (not-passed (a .c .now) _ (c .before .before .before .before .unstuff .ensures .0) (c .before .if2 .left)) in
+    (c .refuse .ensures ∙ ap asRead (g .0), g .1)
 
 read-plain-requires-2 : tie.Need-read-plain-requires-2
 read-plain-requires-2 c κs = search needs
@@ -76,8 +78,8 @@ returns-3 c =
     let out = a .out .now in
     let same = none-stuffed (a .c .now) (sym (c .before .before .before .before .before .any-special .ensures) ∙ c .before .before .before .before .if1 .left) in
     let r = c .before .before .read-plain2 .ensures in (
-      r .0 ∙ ap (λ (l : List ℕ). answered (firstOf (coveredTests l (length out))) l (a .used)) same,
-      r .1 ∙ ap (λ (l : List ℕ). put (firstOf (coveredTests l (length out))) l out) same,
+      r .0 ∙ ap (λ (l : List ℕ). asRead (answered rehastim2 (coveredAnswer rehastim2 l (length out)) l (a .used))) same,
+      r .1 ∙ ap (λ (l : List ℕ). put (coveredAnswer rehastim2 l (length out)) l out) same,
     )
 
 pub read-covered-spec : {M : Type 1} → statement M

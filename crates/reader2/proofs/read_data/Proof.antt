@@ -1,17 +1,15 @@
 -- `reader2::read_data` meets its contract. Assumes nothing.
-use mathlib.Core.Path.{refl, ap, _∙_}
-use Prim.Native.Nat.{_-_}
+use mathlib.Core.Path.{ap, _∙_}
 use native.Mathlib.Omega.{arith}
-use lib.ListN.{length, drop, length-drop}
-use lib.Seq.{sets, take-all}
-use Rattle.reader2.proofs.Covered.{size-range, fits-room, lacks-room}
+use lib.ListN.{length-drop}
+use Rattle.packets.proofs.Tests.{lacks-room}
+use Rattle.packets2.specs.Rehastim2.{rehastim2}
+use Rattle.packets2.proofs.Lawful.{size-range}
+use Rattle.reader2.specs.Reader.{asRead}
+use Rattle.reader2.proofs.Covered.{read-all}
 use borrow.Author.Needs.{needs}
 use Rattle.reader2.proofs.read_data.Statement.{statement}
 use Rattle.reader2.proofs.read_data.Tie as tie
-use Rattle.reader2.proofs.read_data.Reads as reads
-use Rattle.reader2.proofs.read_data.Lts as lts
-use Rattle.reader2.proofs.copy.Reads as copy-reads
-use Rattle.reader2.proofs.refuse.Reads as refuse-reads
 
 sub-size : tie.Need-sub-size
 sub-size c = omega (arith, size-range _ (c .before .before .pre .0) .0)
@@ -40,10 +38,8 @@ same-length c = search needs
 returns : tie.Need-returns
 returns c =
     let s = c .before .before .before .before .before .before .before .before .before in
-    let p = s .args .p .now in
-    let out = s .args .out .now in
-    let f = fits-room p out (s .args .used) (s .args .command) (s .pre .1) (length p - 2) refl (search needs) in
-    (f .0, c .before .before .before .copy .ensures ∙ ap (sets out 0) (take-all (length p - 2) (drop 2 p) (rw length-drop (omega arith))) ∙ f .1)
+    let f = read-all (s .args .p .now) (s .args .out .now) (s .args .used) (s .pre .0) (s .pre .1) (s .args .command) (s .pre .2) (search needs) in
+    (f .0, c .before .before .before .copy .ensures ∙ f .1)
 
 refuse-requires : tie.Need-refuse-requires
 refuse-requires c κs = search needs
@@ -51,8 +47,9 @@ refuse-requires c κs = search needs
 returns-2 : tie.Need-returns-2
 returns-2 c =
     let s = c .before .before .before .before in
-    let f = lacks-room (s .args .p .now) (s .args .out .now) (s .args .used) (s .args .command) (s .pre .1) (length (s .args .p .now) - 2) refl (omega arith) in
-    (c .refuse .ensures ∙ f .0, f .1)
+    let p = s .args .p .now in
+    let f = lacks-room rehastim2 p (s .args .out .now) (s .args .used) (s .pre .0) (s .pre .1) (omega (arith, length-drop 2 p)) in
+    (c .refuse .ensures ∙ ap asRead (f .0), f .1)
 
 pub read-data-spec : {M : Type 1} → statement M
 read-data-spec =

@@ -1,9 +1,11 @@
 -- `reader2::read_packet` meets its contract. Assumes nothing.
-use mathlib.Core.Path.{_∙_}
+use mathlib.Core.Path.{ap, _∙_}
 use native.Mathlib.Omega.{arith}
 use Rattle.framing.specs.Scan.{bodyAt}
 use Rattle.framing.proofs.Resync.{scan-within}
-use Rattle.reader2.proofs.Tests.{unfinished, finished}
+use Rattle.packets.proofs.Tests.{unfinished, finished}
+use Rattle.packets2.specs.Rehastim2.{rehastim2}
+use Rattle.reader2.specs.Reader.{asRead, readPacket}
 use borrow.Author.Needs.{needs}
 use Rattle.reader2.proofs.read_packet.Statement.{statement}
 use Rattle.reader2.proofs.read_packet.Tie as tie
@@ -20,10 +22,11 @@ refuse-requires : tie.Need-refuse-requires
 refuse-requires c κs = search needs
 
 returns : tie.Need-returns
+unfolding readPacket
 returns c =
     let a = c .before .before .before .before .before .args in
-    let f = unfinished (a .s .now) (a .out .now) (c .before .before .find .result) (c .before .before .find .ensures) (c .before .if1 .taken) in
-    (c .refuse .ensures ∙ f .0, f .1)
+    let f = unfinished rehastim2 (a .s .now) (a .out .now) (c .before .before .find .result) (c .before .before .find .ensures) (c .before .if1 .taken) in
+    (c .refuse .ensures ∙ ap asRead (f .0), f .1)
 
 sub-end : tie.Need-sub-end
 sub-end c = search needs
@@ -44,12 +47,12 @@ same-length : tie.Need-same-length
 same-length c = search needs
 
 returns-2 : tie.Need-returns-2
-unfolding bodyAt
+unfolding bodyAt readPacket
 returns-2 c =
     let a = c .before .before .before .before .before .before .before .before .before .args in
     let r = c .before .before .read-body .ensures in
-    let f = finished (a .s .now) (a .out .now) (c .before .before .before .before .before .before .find .result) (c .before .before .before .before .before .before .find .ensures) (c .before .before .before .before .before .if1 .left) in
-    (r .0 ∙ f .0, r .1 ∙ f .1)
+    let f = finished rehastim2 (a .s .now) (a .out .now) (c .before .before .before .before .before .before .find .result) (c .before .before .before .before .before .before .find .ensures) (c .before .before .before .before .before .if1 .left) in
+    (r .0 ∙ ap asRead (f .0), r .1 ∙ f .1)
 
 pub read-packet-spec : {M : Type 1} → statement M
 read-packet-spec =

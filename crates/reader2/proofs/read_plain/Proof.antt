@@ -1,6 +1,10 @@
 -- `reader2::read_plain` meets its contract. Assumes nothing.
-use mathlib.Core.Path.{sym, _∙_}
-use Rattle.reader2.proofs.Covered.{size-range, right-asked, wrong-size, wrong-value, room-left}
+use mathlib.Core.Path.{ap, sym, _∙_}
+use Rattle.packets.proofs.Tests.{wrong-size, wrong-value}
+use Rattle.packets2.specs.Rehastim2.{rehastim2}
+use Rattle.packets2.proofs.Lawful.{size-range}
+use Rattle.reader2.specs.Reader.{asRead}
+use Rattle.reader2.proofs.Covered.{right-asked}
 use borrow.Author.Needs.{needs}
 use Rattle.reader2.proofs.read_plain.Statement.{statement}
 use Rattle.reader2.proofs.read_plain.Tie as tie
@@ -25,18 +29,17 @@ right-requires : tie.Need-right-requires
 right-requires c κs = search needs
 
 read-data-requires : tie.Need-read-data-requires
-read-data-requires c κs = (sym (c .before .before .before .before .before .size-good .ensures) ∙ c .before .before .before .before .if1 .taken, c .before .before .before .command-in .ensures)
+read-data-requires c κs =
+    let command = c .before .before .before .command-in in
+    let p = c .before .before .before .before .before .before .before .before .args .p .now in
+    let asked = right-asked p (command .result) (command .ensures) ∙ sym (c .before .before .right .ensures) in
+    (sym (c .before .before .before .before .before .size-good .ensures) ∙ c .before .before .before .before .if1 .taken, asked ∙ c .before .if2 .taken, command .ensures)
 
 same-length : tie.Need-same-length
 same-length c = search needs
 
 returns : tie.Need-returns
-returns c =
-    let s = c .before .before .before .before .before .before .before .before .before .before .before .args in
-    let p = s .p .now in
-    let asked = right-asked p _ (c .before .before .before .before .before .before .command-in .ensures) ∙ sym (c .before .before .before .before .before .right .ensures) in
-    let g = room-left p (s .out .now) (s .used) (sym (c .before .before .before .before .before .before .before .before .size-good .ensures) ∙ c .before .before .before .before .before .before .before .if1 .taken) (asked ∙ c .before .before .before .before .if2 .taken) in
-    (c .before .before .read-data .ensures .0 ∙ g .0, c .before .before .read-data .ensures .1 ∙ g .1)
+returns c = search needs
 
 refuse-requires : tie.Need-refuse-requires
 refuse-requires c κs = search needs
@@ -46,8 +49,8 @@ returns-2 c =
     let s = c .before .before .before .before .before .before .before .before .args in
     let p = s .p .now in
     let asked = right-asked p _ (c .before .before .before .command-in .ensures) ∙ sym (c .before .before .right .ensures) in
-    let g = wrong-value p (s .out .now) (s .used) (sym (c .before .before .before .before .before .size-good .ensures) ∙ c .before .before .before .before .if1 .taken) (asked ∙ c .before .if2 .left) in
-    (c .refuse .ensures ∙ g .0, g .1)
+    let g = wrong-value rehastim2 p (s .out .now) (s .used) (sym (c .before .before .before .before .before .size-good .ensures) ∙ c .before .before .before .before .if1 .taken) (asked ∙ c .before .if2 .left) in
+    (c .refuse .ensures ∙ ap asRead (g .0), g .1)
 
 refuse-requires-2 : tie.Need-refuse-requires-2
 refuse-requires-2 c κs = search needs
@@ -55,8 +58,8 @@ refuse-requires-2 c κs = search needs
 returns-3 : tie.Need-returns-3
 returns-3 c =
     let s = c .before .before .before .before .before .args in
-    let g = wrong-size (s .p .now) (s .out .now) (s .used) (sym (c .before .before .size-good .ensures) ∙ c .before .if1 .left) in
-    (c .refuse2 .ensures ∙ g .0, g .1)
+    let g = wrong-size rehastim2 (s .p .now) (s .out .now) (s .used) (sym (c .before .before .size-good .ensures) ∙ c .before .if1 .left) in
+    (c .refuse2 .ensures ∙ ap asRead (g .0), g .1)
 
 pub read-plain-spec : {M : Type 1} → statement M
 read-plain-spec =

@@ -1,6 +1,6 @@
 -- `reader2::size_good` meets its contract. Assumes nothing.
 use mathlib.Core.Path.{refl}
-use Rattle.reader2.specs.Reader.{sizeGood}
+use Rattle.packets2.specs.Rehastim2.{sizeGood}
 use Rattle.reader2.proofs.size_good.Statement.{statement}
 use Rattle.reader2.proofs.size_good.Tie as tie
 

@@ -11,9 +11,9 @@ use borrow.Author.Needs.{needs}
 use borrow.Author.Tests.{not-true, not-false}
 use lib.ListN.{length, drop, length-set}
 use Rattle.stuffing.specs.Stuffing.{pairsGood, unstuffed}
-use Rattle.stuffing.specs.Overlay.{overlay}
+use Rattle.slices.specs.Overlay.{overlay}
 use Rattle.stuffing.proofs.Laws.{good-on, good-end, size-on, unstuffed-none, unstuffed-one, unstuffed-end}
-use Rattle.stuffing.proofs.Overlay.{from, from-on, from-end}
+use Rattle.slices.proofs.Overlay.{from, from-on, from-end}
 use Rattle.stuffing.proofs.unstuff.Statement.{statement}
 use Rattle.stuffing.proofs.unstuff.Tie as tie
 

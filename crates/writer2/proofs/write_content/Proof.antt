@@ -5,7 +5,7 @@ use Prim.Native.Nat.{ℕ}
 use native.Mathlib.Omega.{arith}
 use Rattle.framing.specs.Packet.{sizeWritten, writtenTo}
 use Rattle.writer2.specs.declared.Told.{Told}
-use Rattle.writer2.specs.Writer.{headerOf}
+use Rattle.packets2.specs.Rehastim2.{headerOf}
 use Rattle.writer2.proofs.Written.{length-fits}
 use borrow.Author.Needs.{needs}
 use Rattle.writer2.proofs.write_content.Statement.{statement}

@@ -6,7 +6,7 @@ use native.Mathlib.Omega.{arith}
 use lib.ListN.{length, length-take}
 use Rattle.framing.specs.Packet.{sizeWritten, writtenTo}
 use Rattle.commands2.proofs.DataBytes.{length-data-le}
-use Rattle.writer2.specs.Writer.{headerOf}
+use Rattle.packets2.specs.Rehastim2.{headerOf}
 use Rattle.writer2.proofs.Written.{data-size, content-is, content-within}
 use borrow.Author.Needs.{needs}
 use Rattle.writer2.proofs.write_good.Statement.{statement}

@@ -1,9 +1,9 @@
--- `reader2::byte_at` meets its contract. Assumes nothing.
+-- `slices::byte_at` meets its contract. Assumes nothing.
 use mathlib.Core.Path.{sym}
 use borrow.Author.Needs.{needs}
 use lib.ListN.{List·getD-eq-default}
-use Rattle.reader2.proofs.byte_at.Statement.{statement}
-use Rattle.reader2.proofs.byte_at.Tie as tie
+use Rattle.slices.proofs.byte_at.Statement.{statement}
+use Rattle.slices.proofs.byte_at.Tie as tie
 
 shared-slice-read-result : tie.Need-shared-slice-read-result
 shared-slice-read-result c = search needs
