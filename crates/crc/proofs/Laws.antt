@@ -3,10 +3,10 @@
 use mathlib.Core.Path.{_≡_, refl, sym, ap, ap₂, _∙_, subst}
 use mathlib.Core.List.{List, [], _∷_, _++_}
 use Prim.Native.Nat.{ℕ, zero, suc, _+_, _-_, _*_, _/_, _%_, _^_, _<_, _≤_}
-use native.Mathlib.Nat.{mod-lt, mod-one, mod-eq-of-lt, div-one, div-eq-of-lt, add-zero, zero-mul, one-mul, mul-one, mul-assoc, pow-suc, pow-succ', mul-lt-mul-of-pos-right, div-lt-iff-lt-mul}
+use native.Mathlib.Nat.{mod-lt, mod-one, mod-eq-of-lt, mul-mod-left, div-one, div-eq-of-lt, add-zero, zero-mul, one-mul, mul-one, mul-assoc, pow-suc, pow-succ', mul-lt-mul-of-pos-right, div-lt-iff-lt-mul}
 use native.Mathlib.Numerals.{add-one}
 use native.Mathlib.Omega.{arith}
-use lib.Pow.{pow-pos, pow-mono, shl-lt, shr-lt, split}
+use lib.Pow.{pow-pos, pow-mono, shl-lt, shr-lt, shl-shr, mod-pow-add, split}
 use lib.Bits.{bitXor, xor-mod, xor-shr, xor-lt, xor-block, xor-shifted, xor-comm, xor-zero-l, xor-zero-r}
 use lib.ListN.{length, drop, getD, drop-of-length-le}
 use lib.Seq.{drop-cons}
@@ -67,6 +67,17 @@ module _ (k poly : ℕ) where
     steps-lt zero a h = h
     steps-lt (suc n) a h = steps-lt n (bitStep k poly a) (step-lt a h)
 
+-- a byte of its own, into the top eight bits of 0
+alone : (m poly b : ℕ) → byteStep (7 + m) poly 0 b ≡ bitSteps 8 (7 + m) poly (b * 2 ^ m)
+unfolding byteStep
+alone m poly b =
+    let at : 7 + m - 7 ≡ m = omega arith in
+    rw at (ap (bitSteps 8 (7 + m) poly) (xor-zero-l (b * 2 ^ m)))
+
+-- the place in the table: the top eight bits and the byte
+pub place-lt : (m r b : ℕ) → r < 2 ^ (8 + m) → b < 256 → bitXor (r / 2 ^ m) b < 256
+place-lt m r b hr hb = xor-lt 8 (r / 2 ^ m) b (shr-lt 8 m hr) hb
+
 -- THEOREM. A byte into 8 + m bits: the table's entry for the top eight, and the low m moved up.
 pub by-table : (m poly r b : ℕ) → poly < 2 ^ (8 + m) → r < 2 ^ (8 + m) → b < 256
     → byteStep (7 + m) poly r b ≡ bitXor (r % 2 ^ m * 256) (bitSteps 8 (7 + m) poly (bitXor (r / 2 ^ m) b * 2 ^ m))
@@ -78,7 +89,7 @@ by-table m poly r b hp hr hb =
     let at : k - 7 ≡ m = omega arith in
     let lo : r % 2 ^ m < 2 ^ m = mod-lt r (pow-pos m) in
     let up : 2 ^ m ≤ 2 ^ suc k = pow-mono (omega arith) in
-    let hx : x * 2 ^ m < 2 ^ (8 + m) = shl-lt 8 m (xor-lt 8 (r / 2 ^ m) b (shr-lt 8 m hr) hb) in
+    let hx : x * 2 ^ m < 2 ^ (8 + m) = shl-lt 8 m (place-lt m r b hr hb) in
     ap (λ (n : ℕ). bitSteps 8 k poly (bitXor r (b * 2 ^ n))) at
     ∙ ap (bitSteps 8 k poly)
     (ap₂ bitXor (sym (split r m)) (sym (add-zero (b * 2 ^ m))) ∙ xor-block m (r / 2 ^ m) b (r % 2 ^ m) 0 lo (pow-pos m)
@@ -87,18 +98,40 @@ by-table m poly r b hp hr hb =
     ∙ ap (bitXor (bitSteps 8 k poly (x * 2 ^ m))) (low-bits k poly 8 m (r % 2 ^ m) (omega arith) lo)
     ∙ xor-comm (bitSteps 8 k poly (x * 2 ^ m)) (r % 2 ^ m * 256)
 
+pub looked-up : (m poly : ℕ) (table : List ℕ) → table ≡ tableOf (7 + m) poly → (r b : ℕ) → poly < 2 ^ (8 + m) → r < 2 ^ (8 + m) → b < 256
+    → bitXor (r % 2 ^ m * 256) (getD table (bitXor (r / 2 ^ m) b) 0) ≡ byteStep (7 + m) poly r b
+looked-up m poly table e r b hp hr hb =
+    let x = bitXor (r / 2 ^ m) b in
+    ap (bitXor (r % 2 ^ m * 256)) (ap (λ (t : List ℕ). getD t x 0) e ∙ entry (7 + m) poly x (place-lt m r b hr hb) ∙ alone m poly x)
+    ∙ sym (by-table m poly r b hp hr hb)
+
+pub byte-lt : (m poly r b : ℕ) → poly < 2 ^ (8 + m) → r < 2 ^ (8 + m) → b < 256 → byteStep (7 + m) poly r b < 2 ^ (8 + m)
+unfolding byteStep
+byte-lt m poly r b hp hr hb =
+    let wide : 2 ^ (8 + m) ≡ 2 ^ suc (7 + m) = ap (λ (n : ℕ). 2 ^ n) (omega arith) in
+    let at : 7 + m - 7 ≡ m = omega arith in
+    let x = bitXor r (b * 2 ^ m) in
+    let hx : x < 2 ^ (8 + m) = xor-lt (8 + m) r (b * 2 ^ m) hr (shl-lt 8 m hb) in
+    let h = steps-lt (7 + m) poly (omega arith) 8 x (omega arith) in
+    rw at (omega arith)
+
 -- into eight bits nothing stands below: a byte leaves what stands in the table at its sum with the remainder
 pub looked-up8 : (poly : ℕ) (table : List ℕ) → table ≡ tableOf 7 poly → (r b : ℕ) → poly < 256 → r < 256 → b < 256 → getD table (bitXor r b) 0 ≡ byteStep 7 poly r b
-looked-up8 poly table e r b hp hr hb =
-    let x = bitXor r b in
-    let hx : x < 256 = xor-lt 8 r b hr hb in
-    ap (λ (t : List ℕ). getD t x 0) e ∙ entry 7 poly x hx
-    ∙ by-table 0 poly 0 x hp (omega arith) hx ∙ ap (λ (n : ℕ). bitSteps 8 7 poly (n * 2 ^ 0)) (xor-zero-l x)
-    ∙ sym (by-table 0 poly r b hp hr hb ∙ simp (mod-one, div-one, mul-one))
+looked-up8 poly table e r b hp hr hb = simp (mod-one, div-one, xor-zero-l) at (looked-up 0 poly table e r b hp hr hb)
 
 pub byte-lt8 : (poly r b : ℕ) → poly < 256 → r < 256 → b < 256 → byteStep 7 poly r b < 256
-unfolding byteStep
-byte-lt8 poly r b hp hr hb = steps-lt 7 poly hp 8 (bitXor r (b * 1)) (xor-lt 8 r (b * 1) hr (omega arith))
+byte-lt8 = byte-lt 0
+
+pub looked-up16 : (poly : ℕ) (table : List ℕ) → table ≡ tableOf 15 poly → (r b : ℕ) → poly < 65536 → r < 65536 → b < 256
+    → bitXor (r % 256 * 256) (getD table (bitXor (r / 256) b) 0) ≡ byteStep 15 poly r b
+looked-up16 = looked-up 8
+
+pub byte-lt16 : (poly r b : ℕ) → poly < 65536 → r < 65536 → b < 256 → byteStep 15 poly r b < 65536
+byte-lt16 = byte-lt 8
+
+-- sixteen bits moved up by eight: the upper eight fall out
+pub moved16 : (r : ℕ) → r * 256 % 65536 ≡ r % 256 * 256
+moved16 r = mod-pow-add (r * 256) 8 8 ∙ ap₂ (λ (x y : ℕ). x % 256 * 256 + y) (shl-shr r 8) (mul-mod-left r 256) ∙ add-zero (r % 256 * 256)
 
 -- ---- bytes one after the other
 pub crc-append : (k poly r : ℕ) (a b : List ℕ) → crc k poly r (a ++ b) ≡ crc k poly (crc k poly r a) b

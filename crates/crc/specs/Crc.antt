@@ -32,3 +32,7 @@ crc k poly r (b ∷ bytes) = crc k poly (byteStep k poly r b) bytes
 -- source 000, section 2.2: CRC-8, x^8 + x^2 + x + 1, 07 hexadecimal; the remainder is 0 at the start
 abbrev pub crc8 : List ℕ → ℕ
 crc8 bytes = crc 7 7 0 bytes
+
+-- source 002, section 2.2: "CRC-CCITT 2 Byte (16 Bit)"; request 13: polynomial 1021 hexadecimal; the remainder is 0 at the start
+abbrev pub crc16 : List ℕ → ℕ
+crc16 bytes = crc 15 4129 0 bytes
