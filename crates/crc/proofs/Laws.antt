@@ -98,14 +98,14 @@ by-table m poly r b hp hr hb =
     ∙ ap (bitXor (bitSteps 8 k poly (x * 2 ^ m))) (low-bits k poly 8 m (r % 2 ^ m) (omega arith) lo)
     ∙ xor-comm (bitSteps 8 k poly (x * 2 ^ m)) (r % 2 ^ m * 256)
 
-pub looked-up : (m poly : ℕ) (table : List ℕ) → table ≡ tableOf (7 + m) poly → (r b : ℕ) → poly < 2 ^ (8 + m) → r < 2 ^ (8 + m) → b < 256
+looked-up : (m poly : ℕ) (table : List ℕ) → table ≡ tableOf (7 + m) poly → (r b : ℕ) → poly < 2 ^ (8 + m) → r < 2 ^ (8 + m) → b < 256
     → bitXor (r % 2 ^ m * 256) (getD table (bitXor (r / 2 ^ m) b) 0) ≡ byteStep (7 + m) poly r b
 looked-up m poly table e r b hp hr hb =
     let x = bitXor (r / 2 ^ m) b in
     ap (bitXor (r % 2 ^ m * 256)) (ap (λ (t : List ℕ). getD t x 0) e ∙ entry (7 + m) poly x (place-lt m r b hr hb) ∙ alone m poly x)
     ∙ sym (by-table m poly r b hp hr hb)
 
-pub byte-lt : (m poly r b : ℕ) → poly < 2 ^ (8 + m) → r < 2 ^ (8 + m) → b < 256 → byteStep (7 + m) poly r b < 2 ^ (8 + m)
+byte-lt : (m poly r b : ℕ) → poly < 2 ^ (8 + m) → r < 2 ^ (8 + m) → b < 256 → byteStep (7 + m) poly r b < 2 ^ (8 + m)
 unfolding byteStep
 byte-lt m poly r b hp hr hb =
     let wide : 2 ^ (8 + m) ≡ 2 ^ suc (7 + m) = ap (λ (n : ℕ). 2 ^ n) (omega arith) in
