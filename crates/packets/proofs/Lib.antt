@@ -14,3 +14,4 @@ pub mod Along
 pub mod Row
 pub mod ReadsBack
 pub mod WritesBack
+pub mod Checksum

@@ -1,6 +1,6 @@
 -- The RehaMove3's header, check sum and length belong together. Assumes nothing.
-use Prim.Native.Nat.{ℕ, suc, _+_, _/_, _%_, _≤_, _<_}
-use mathlib.Core.Bool.{Bool, true, false, cond, _&&_, false≢true}
+use Prim.Native.Nat.{ℕ, _+_, _/_, _%_, _≤_, _<_}
+use mathlib.Core.Bool.{Bool, true, false, _&&_, false≢true}
 use mathlib.Core.Path.{_≡_, refl, sym, ap, _∙_}
 use mathlib.Core.List.{List, [], _∷_, _++_}
 use native.Mathlib.Omega.{arith}
@@ -10,7 +10,8 @@ use lib.ListN.{length, drop, getD, length-drop, drop-of-length-le, List·getD-eq
 use lib.Seq.{getD-drop, drop-drop}
 use borrow.Author.Tests.{eqb-true, eq-eqb, le-leb, lt-leb, leb-true, ltb-true, ltb-false}
 use Rattle.crc.specs.Crc.{crc, crc16}
-use Rattle.stuffing.specs.Stuffing.{stuffingByte, stuffingKey, stuffed, pairs, opensPair, plainOf, unstuffed}
+use Rattle.stuffing.specs.Stuffing.{stuffingByte, stuffingKey, stuffed, pairs}
+use Rattle.stuffing.proofs.Laws.{unstuffed-le}
 use Rattle.stuffing.proofs.Tests.{both}
 use Rattle.stuffing.proofs.RoundTrip.{stuffed-unstuffed}
 use Rattle.framing.specs.Packet.{bodyOf}
@@ -78,17 +79,6 @@ module _ (body : List ℕ) where
   pub length-most : lengthRight body ≡ true → length body + 2 ≤ 1200
   unfolding lengthRight
   length-most e = leb-true (length body + 2) 1200 (both (leb (length body + 2) 1200) (says body (length body + 2)) e .0)
-
--- bytes stand for no more bytes than they are
-unstuffed-le : (after : Bool) (c : List ℕ) → length (unstuffed after c) ≤ length c
-unfolding unstuffed plainOf opensPair
-unstuffed-le after [] = omega arith
-unstuffed-le true (b ∷ c) = omega (arith, unstuffed-le false c)
-unstuffed-le false (b ∷ c) = by (eqb b stuffingByte) (λ after. unstuffed-le after c)
-  where
-    by : (t : Bool) → ((after : Bool) → length (unstuffed after c) ≤ length c) → length (cond t [] (b ∷ []) ++ unstuffed t c) ≤ suc (length c)
-    by true k = omega (arith, k true)
-    by false k = omega (arith, k false)
 
 -- ---- the header
 

@@ -1,1 +1,2 @@
 pub mod Rehamove3
+pub mod Writer

@@ -28,6 +28,22 @@ size-le b n = by (special b)
     by true e = omega arith
     by false e = omega arith
 
+pub length-stuffed-le : (l : List ℕ) → length (stuffed l) ≤ length l + length l
+unfolding stuffed
+length-stuffed-le [] = omega arith
+length-stuffed-le (b ∷ l) = rw length-append (omega (arith, size-le b _ refl, length-stuffed-le l))
+
+-- bytes stand for no more bytes than they are
+pub unstuffed-le : (after : Bool) (c : List ℕ) → length (unstuffed after c) ≤ length c
+unfolding unstuffed plainOf opensPair
+unstuffed-le after [] = omega arith
+unstuffed-le true (b ∷ c) = omega (arith, unstuffed-le false c)
+unstuffed-le false (b ∷ c) = by (eqb b stuffingByte) (λ after. unstuffed-le after c)
+  where
+    by : (t : Bool) → ((after : Bool) → length (unstuffed after c) ≤ length c) → length (cond t [] (b ∷ []) ++ unstuffed t c) ≤ suc (length c)
+    by true k = omega (arith, k true)
+    by false k = omega (arith, k false)
+
 -- ---- is any special? a turn of a loop, and its end
 pub any-on : (s : List ℕ) (i : ℕ) → i < length s → anySpecial (drop i s) ≡ (special (getD s i 0) || anySpecial (drop (i + 1) s))
 unfolding anySpecial

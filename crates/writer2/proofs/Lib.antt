@@ -1,2 +1,1 @@
-pub mod Checksum
 pub mod Written

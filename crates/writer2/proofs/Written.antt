@@ -5,7 +5,8 @@ use Prim.Native.Nat.{ℕ, zero, suc, _+_, _≤_, _<_}
 use native.Mathlib.Omega.{arith}
 use lib.ListN.{length, take, drop, getD, replicate, length-append, length-take}
 use Rattle.stuffing.specs.Stuffing.{stuffed}
-use Rattle.stuffing.proofs.Laws.{size-le}
+use Rattle.stuffing.proofs.Laws.{length-stuffed-le}
+use Rattle.slices.proofs.Front.{front}
 use Rattle.framing.specs.Packet.{packetOf}
 use Rattle.framing.proofs.Writing.{length-packet}
 use Rattle.commands2.specs.declared.Command.{Command}
@@ -15,11 +16,6 @@ use Rattle.commands2.specs.Commands.{numberOf, dataOf}
 use Rattle.commands2.proofs.DataBytes.{length-data-le}
 use Rattle.packets2.specs.Rehastim2.{headerOf}
 use Rattle.writer2.specs.Writer.{contentOf}
-
-length-stuffed-le : (l : List ℕ) → length (stuffed l) ≤ length l + length l
-unfolding stuffed
-length-stuffed-le [] = omega arith
-length-stuffed-le (b ∷ l) = rw length-append (omega (arith, size-le b _ refl, length-stuffed-le l))
 
 pub length-fits : (content : List ℕ) → length content ≤ 62 → length (stuffed content) < 256
 length-fits content h = omega (arith, length-stuffed-le content)
@@ -35,11 +31,6 @@ by-places (a ∷ b ∷ c ∷ d ∷ []) h = absurd (omega arith)
 by-places (a ∷ b ∷ c ∷ d ∷ e ∷ []) h = absurd (omega arith)
 by-places (a ∷ b ∷ c ∷ d ∷ e ∷ f ∷ []) h = absurd (omega arith)
 by-places (a ∷ b ∷ c ∷ d ∷ e ∷ f ∷ g ∷ x ∷ l) h = absurd (omega arith)
-
-front : (d z : List ℕ) (k : ℕ) → length d ≤ k → take (length d) (take k (d ++ z)) ≡ d
-front [] z k h = refl
-front (x ∷ d) z zero h = absurd (omega arith)
-front (x ∷ d) z (suc k) h = ap (λ (l : List ℕ). x ∷ l) (front d z k (omega arith))
 
 module _ (r : Data) (c : Command) (e : r ≡ dataByValue c) where
   pub data-size : r .size ≡ length (dataOf c)

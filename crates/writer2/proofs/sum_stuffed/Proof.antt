@@ -12,7 +12,7 @@ use Rattle.crc.specs.Crc.{crc, byteStep}
 use Rattle.crc.proofs.Laws.{looked-up8, byte-lt8}
 use Rattle.stuffing.specs.Stuffing.{stuffed, stuffedByte}
 use Rattle.stuffing.proofs.Laws.{stuffed-special, stuffed-plain, size-le, turn-length, end, stuffed-nil, stuffed-cons}
-use Rattle.writer2.proofs.Checksum.{step-special, step-plain, check-turn, check-end}
+use Rattle.packets.proofs.Checksum.{step-special, step-plain, check-turn, check-end}
 use Rattle.writer2.proofs.sum_stuffed.Statement.{statement}
 use Rattle.writer2.proofs.sum_stuffed.Tie as tie
 
@@ -69,15 +69,15 @@ loop-again c =
     ⊎-elim
     (λ w.
     let e = sym (special .ensures) ∙ w .0 .taken in
-    (ap₂ (byteStep 7 7) (w .1 ∙ looked-up8 7 _ (t .ensures) (l .check) 129 (omega arith) (l .inv .1) (omega arith)) (w .3) ∙ step-special (l .check) b e, omega (arith, w .2, ap length (stuffed-special b e))))
+    (ap₂ (byteStep 7 7) (w .1 ∙ looked-up8 7 _ (t .ensures) (l .check) 129 (omega arith) (l .inv .1) (omega arith)) (w .3) ∙ step-special 7 7 (l .check) b e, omega (arith, w .2, ap length (stuffed-special b e))))
     (λ w.
     let e = sym (special .ensures) ∙ w .0 .left in
-    (ap₂ (byteStep 7 7) (w .1) (w .3) ∙ step-plain (l .check) b e, omega (arith, w .2, ap length (stuffed-plain b e)))) (j .came) in
+    (ap₂ (byteStep 7 7) (w .1) (w .3) ∙ step-plain 7 7 (l .check) b e, omega (arith, w .2, ap length (stuffed-plain b e)))) (j .came) in
     let e = looked-up8 7 _ (t .ensures) (j .check) (j .b) (omega arith) (search needs) (search needs) in
     let n = turn-length stuffedByte stuffed stuffed-nil stuffed-cons s (l .i) (search needs) in (
       search needs,
       subst (λ (n : ℕ). n < 256) (sym e) (byte-lt8 7 (j .check) (j .b) (omega arith) (search needs) (search needs)),
-      ap (λ (n : ℕ). crc 7 7 n (stuffed (drop (l .i + 1) s))) (e ∙ stepped .0) ∙ sym (check-turn (l .check) s (l .i) (search needs)) ∙ l .inv .2,
+      ap (λ (n : ℕ). crc 7 7 n (stuffed (drop (l .i + 1) s))) (e ∙ stepped .0) ∙ sym (check-turn 7 7 (l .check) s (l .i) (search needs)) ∙ l .inv .2,
       omega (arith, stepped .1, size-le b _ refl, l .inv .3),
       omega (arith, stepped .1, n, l .inv .4),
     )
@@ -87,7 +87,7 @@ returns c =
     let l = c .before .loop in
     let s = c .before .before .before .before .args .c .now in
     let h = c .loop-test .left in
-    let e : l .check ≡ crc 7 7 0 (stuffed s) = sym (check-end (l .check) s (l .i) h) ∙ l .inv .2 in
+    let e : l .check ≡ crc 7 7 0 (stuffed s) = sym (check-end 7 7 (l .check) s (l .i) h) ∙ l .inv .2 in
     let n : l .size ≡ length (stuffed s) = omega (arith, ap length (end stuffedByte stuffed stuffed-nil stuffed-cons s (l .i) h), l .inv .4) in
     ap₂ (λ (x y : ℕ). record { check = x; size = y }) e n
 
