@@ -1,0 +1,135 @@
+-- `encode3::contents::config` meets its contract. The loop's invariant: the bytes are the content of the points so far, and the size is theirs.
+-- Assumes nothing.
+use mathlib.Core.Path.{_≡_, refl, sym, ap, ap₂, _∙_}
+use mathlib.Core.Bool.{true}
+use mathlib.Core.List.{List, [], _∷_, _++_}
+use Prim.Native.Nat.{ℕ, _+_, _*_, _-_, _≤_}
+use native.Mathlib.Omega.{arith}
+use lib.ListN.{length, take, length-take}
+use borrow.Author.Needs.{needs}
+use Rattle.charge.specs.Charge.{ofPaper}
+use Rattle.charge.proofs.Points.{noPoint, all-at}
+use Rattle.commands3.specs.Points.{wordOf, bytesOf}
+use Rattle.commands3.specs.Contents.{two}
+use Rattle.encode3.specs.Encoded.{byValue}
+use Rattle.encode3.specs.Content.{contentByValue}
+use Rattle.encode3.proofs.Bytes.{length-bytes, turn}
+use Rattle.encode3.proofs.contents.config.Statement.{statement}
+use Rattle.encode3.proofs.contents.config.Tie as tie
+
+abbrev Inv-loop : tie.InvT-loop
+Inv-loop head first number points bytes₀ size₀ i₀ bytes size i =
+    (i ≤ number) × (size ≡ 3 + 4 * i) × (bytes ≡ byValue (two head ++ first ∷ bytesOf (take i points)))
+
+abbrev μ-loop : tie.MeasureT-loop
+μ-loop head first number points bytes₀ size₀ i₀ bytes size i = number - i
+
+front-requires : tie.Need-front-requires Inv-loop μ-loop
+front-requires c κs = tt
+
+loop-holds : tie.Need-loop-holds Inv-loop μ-loop
+unfolding bytesOf
+loop-holds c = (omega arith, omega arith, c .front .ensures)
+
+mul-word : tie.Need-mul-word Inv-loop μ-loop
+mul-word c = search needs
+
+array-copy-out-word : tie.Need-array-copy-out-word Inv-loop μ-loop
+array-copy-out-word c = search needs
+
+word-requires : tie.Need-word-requires Inv-loop μ-loop
+word-requires c κs =
+    let start = c .before .before .before .before in
+    all-at ofPaper (start .args .t4) (c .before .before .loop .i) noPoint (omega (arith, start .good)) (start .pre .1)
+
+cast-bytes : tie.Need-cast-bytes Inv-loop μ-loop
+cast-bytes c = search needs
+
+array-write-bytes : tie.Need-array-write-bytes Inv-loop μ-loop
+array-write-bytes c = search needs
+
+cast-bytes-2 : tie.Need-cast-bytes-2 Inv-loop μ-loop
+cast-bytes-2 c = search needs
+
+add-bytes : tie.Need-add-bytes Inv-loop μ-loop
+add-bytes c = search needs
+
+array-write-bytes-2 : tie.Need-array-write-bytes-2 Inv-loop μ-loop
+array-write-bytes-2 c = search needs
+
+cast-bytes-3 : tie.Need-cast-bytes-3 Inv-loop μ-loop
+cast-bytes-3 c = search needs
+
+add-bytes-2 : tie.Need-add-bytes-2 Inv-loop μ-loop
+add-bytes-2 c = search needs
+
+array-write-bytes-3 : tie.Need-array-write-bytes-3 Inv-loop μ-loop
+array-write-bytes-3 c = search needs
+
+cast-bytes-4 : tie.Need-cast-bytes-4 Inv-loop μ-loop
+cast-bytes-4 c = search needs
+
+add-bytes-3 : tie.Need-add-bytes-3 Inv-loop μ-loop
+add-bytes-3 c = search needs
+
+array-write-bytes-4 : tie.Need-array-write-bytes-4 Inv-loop μ-loop
+array-write-bytes-4 c = search needs
+
+add-size : tie.Need-add-size Inv-loop μ-loop
+add-size c = search needs
+
+add-i : tie.Need-add-i Inv-loop μ-loop
+add-i c = search needs
+
+loop-less : tie.Need-loop-less Inv-loop μ-loop
+loop-less c = search needs
+
+loop-again : tie.Need-loop-again Inv-loop μ-loop
+loop-again c =
+    let l = c .before .before .before .loop in
+    let start = c .before .before .before .before .before in
+    let a = start .args in
+    let front : List ℕ = two (a .head) ++ a .first ∷ [] in (
+      search needs,
+      search needs,
+      rw (l .inv .2) (turn front (a .t4) (l .i) (l .size) _ noPoint (omega (arith, start .good)) (l .inv .1) (omega arith) (c .word .ensures)),
+    )
+
+returns : tie.Need-returns Inv-loop μ-loop
+unfolding contentByValue
+returns c =
+    let l = c .before .loop in
+    let start = c .before .before .before in
+    let a = start .args in
+    let e : l .i ≡ a .number = omega arith in
+    ap₂ (λ (b : List ℕ) (n : ℕ). record { good = true; bytes = b; size = n })
+    (l .inv .2 ∙ ap (λ (n : ℕ). byValue (two (a .head) ++ a .first ∷ bytesOf (take n (a .t4)))) e)
+    (omega (arith, l .inv .1, length-bytes (take (a .number) (a .t4)), length-take (a .number) (a .t4), start .good))
+
+pub config-spec : {M : Type 1} → statement M
+config-spec =
+    tie.close
+    (tie.spec
+    Inv-loop
+    μ-loop
+    front-requires
+    loop-holds
+    mul-word
+    array-copy-out-word
+    word-requires
+    cast-bytes
+    array-write-bytes
+    cast-bytes-2
+    add-bytes
+    array-write-bytes-2
+    cast-bytes-3
+    add-bytes-2
+    array-write-bytes-3
+    cast-bytes-4
+    add-bytes-3
+    array-write-bytes-4
+    add-size
+    add-i
+    loop-less
+    loop-again
+    returns)
