@@ -9,6 +9,7 @@ use lib.ListN.{length, getD, set, take, replicate, length-append, length-take}
 use lib.Seq.{set-at, sets, take-suc}
 use Rattle.charge.specs.declared.Point.{Point}
 use Rattle.commands3.specs.Points.{wordOf, pointBytes, bytesOf}
+use Rattle.commands3.proofs.Points.{length-bytes}
 use Rattle.encode3.specs.Encoded.{byValue}
 
 -- ---- bytes
@@ -49,11 +50,6 @@ bytes-append : (l m : List Point) → bytesOf (l ++ m) ≡ bytesOf l ++ bytesOf 
 unfolding bytesOf
 bytes-append [] m = refl
 bytes-append (p ∷ l) m = ap (λ (r : List ℕ). pointBytes p ++ r) (bytes-append l m) ∙ sym (append-assoc (pointBytes p) (bytesOf l) (bytesOf m))
-
-pub length-bytes : (l : List Point) → length (bytesOf l) ≡ 4 * length l
-unfolding bytesOf pointBytes
-length-bytes [] = refl
-length-bytes (p ∷ l) = omega (arith, length-bytes l)
 
 bytes-end : (l : List Point) (i : ℕ) (d : Point) → i < length l → bytesOf (take (i + 1) l) ≡ bytesOf (take i l) ++ pointBytes (getD l i d)
 unfolding bytesOf

@@ -1,2 +1,2 @@
-pub mod Tests
+pub mod Writable
 pub mod Bytes

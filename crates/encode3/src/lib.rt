@@ -1,6 +1,5 @@
 // Contents of packets of the RehaMove3, written (request 13; source 002, sections 2.2 and 4).
 mod contents;
-mod values;
 
 use commands3::Message;
 ghost use mathlib.Core.Path.{_≡_};
@@ -16,7 +15,7 @@ pub struct Encoded {
 pub fn encode(packet: u8, m: Message) -> Encoded
     ensures { λ r. ⌜ r ≡ encoded packet m ⌝ }
 {
-    if (packet <= 63) & values::is_good(m) {
+    if (packet <= 63) & values3::good(m) {
         return contents::content(packet, m);
     }
     Encoded {

@@ -8,11 +8,11 @@ use Rattle.encode3.specs.Content.{contentByValue}
 use Rattle.encode3.proofs.encode.Statement.{statement}
 use Rattle.encode3.proofs.encode.Tie as tie
 
-tested : (c : tie.After-is-good) → writable (c .before .args .packet) (c .before .args .m) ≡ leb (c .before .args .packet) 63 && c .is-good .result
-tested c = ap (λ (t : Bool). leb (c .before .args .packet) 63 && t) (sym (c .is-good .ensures))
+tested : (c : tie.After-good2) → writable (c .before .args .packet) (c .before .args .m) ≡ leb (c .before .args .packet) 63 && c .good2 .result
+tested c = ap (λ (t : Bool). leb (c .before .args .packet) 63 && t) (sym (c .good2 .ensures))
 
-is-good-requires : tie.Need-is-good-requires
-is-good-requires c κs = tt
+good-requires : tie.Need-good-requires
+good-requires c κs = tt
 
 content-requires : tie.Need-content-requires
 content-requires c κs = tested (c .before) ∙ c .if1 .taken
@@ -26,4 +26,4 @@ unfolding encoded
 returns-2 c = rw (tested (c .before) ∙ c .if1 .left)
 
 pub encode-spec : {M : Type 1} → statement M
-encode-spec = tie.close (tie.spec is-good-requires content-requires returns returns-2)
+encode-spec = tie.close (tie.spec good-requires content-requires returns returns-2)

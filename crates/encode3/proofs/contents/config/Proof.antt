@@ -11,9 +11,10 @@ use Rattle.charge.specs.Charge.{ofPaper}
 use Rattle.charge.proofs.Points.{noPoint, all-at}
 use Rattle.commands3.specs.Points.{wordOf, bytesOf}
 use Rattle.commands3.specs.Contents.{two}
+use Rattle.commands3.proofs.Points.{length-bytes}
 use Rattle.encode3.specs.Encoded.{byValue}
 use Rattle.encode3.specs.Content.{contentByValue}
-use Rattle.encode3.proofs.Bytes.{length-bytes, turn}
+use Rattle.encode3.proofs.Bytes.{turn}
 use Rattle.encode3.proofs.contents.config.Statement.{statement}
 use Rattle.encode3.proofs.contents.config.Tie as tie
 

@@ -9,7 +9,7 @@ use Rattle.charge.proofs.Theorems.{good-pulse, of-paper}
 use Rattle.commands3.specs.Commands.{goodFor}
 use Rattle.commands3.specs.Contents.{contentOf}
 use Rattle.encode3.specs.Content.{contentByValue}
-use Rattle.encode3.proofs.Tests.{writable-parts, number-small, voltage-small, config-parts}
+use Rattle.encode3.proofs.Writable.{writable-parts, number-small, voltage-small, config-parts}
 use Rattle.encode3.proofs.contents.content.Statement.{statement}
 use Rattle.encode3.proofs.contents.content.Tie as tie
 

@@ -1,4 +1,4 @@
-// Which messages may be written: good values, no pulse beside a command that has none, and a net charge of zero.
+// Which messages of the RehaMove3 may be written (request 13): good values, no pulse beside a command that has none, and a net charge of zero.
 use charge::Point;
 use charge::Pulse;
 use commands3::Command;
@@ -35,7 +35,7 @@ fn is_balanced(p: Pulse) -> bool
     w.good & (w.charge == 0)
 }
 
-pub fn is_good(m: Message) -> bool
+pub fn good(m: Message) -> bool
     ensures { λ r. ⌜ r ≡ good m ⌝ }
 {
     let c = m.command;

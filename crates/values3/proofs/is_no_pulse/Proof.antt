@@ -1,7 +1,7 @@
--- `encode3::values::is_no_pulse` meets its contract. Assumes nothing.
+-- `values3::is_no_pulse` meets its contract. Assumes nothing.
 use Rattle.commands3.specs.Commands.{isNoPulse}
-use Rattle.encode3.proofs.values.is_no_pulse.Statement.{statement}
-use Rattle.encode3.proofs.values.is_no_pulse.Tie as tie
+use Rattle.values3.proofs.is_no_pulse.Statement.{statement}
+use Rattle.values3.proofs.is_no_pulse.Tie as tie
 
 all-zero-requires : tie.Need-all-zero-requires
 all-zero-requires c κs = tt

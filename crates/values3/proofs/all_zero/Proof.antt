@@ -1,4 +1,4 @@
--- `encode3::values::all_zero` meets its contract. The loop's invariant: the test so far, and that of the points left, is that of all.
+-- `values3::all_zero` meets its contract. The loop's invariant: the test so far, and that of the points left, is that of all.
 -- Assumes nothing.
 use mathlib.Core.Path.{_≡_, refl, sym, ap, _∙_}
 use mathlib.Core.Bool.{Bool, _&&_, and-assoc, and-true}
@@ -7,9 +7,9 @@ use native.Mathlib.Omega.{arith}
 use lib.ListN.{drop}
 use borrow.Author.Needs.{needs}
 use Rattle.charge.specs.Charge.{isZeroPoint, all}
-use Rattle.encode3.proofs.Tests.{all-turn, all-end}
-use Rattle.encode3.proofs.values.all_zero.Statement.{statement}
-use Rattle.encode3.proofs.values.all_zero.Tie as tie
+use Rattle.values3.proofs.Tests.{all-turn, all-end}
+use Rattle.values3.proofs.all_zero.Statement.{statement}
+use Rattle.values3.proofs.all_zero.Tie as tie
 
 abbrev Inv-loop : tie.InvT-loop
 Inv-loop points zero₀ i₀ zero i = (i ≤ 16) × (zero && all isZeroPoint (drop i points) ≡ all isZeroPoint points)

@@ -1,9 +1,9 @@
--- `encode3::values::is_good` meets its contract: the definition at each command. Assumes nothing.
+-- `values3::good` meets its contract: the definition at each command. Assumes nothing.
 use mathlib.Core.Path.{sym}
 use mathlib.Core.Bool.{true, and-assoc}
-use Rattle.encode3.proofs.Tests.{no-charge}
-use Rattle.encode3.proofs.values.is_good.Statement.{statement}
-use Rattle.encode3.proofs.values.is_good.Tie as tie
+use Rattle.values3.proofs.Tests.{no-charge}
+use Rattle.values3.proofs.good.Statement.{statement}
+use Rattle.values3.proofs.good.Tie as tie
 
 enum-known-c : tie.Need-enum-known-c
 enum-known-c c = c .match .keys1
@@ -77,8 +77,8 @@ returns-6 c = rw (c .before .before .before .c5 .given .1, c .before .good-resul
 returns-7 : tie.Need-returns-7
 returns-7 c = rw (c .enum-told2 .given .1)
 
-pub is-good-spec : {M : Type 1} → statement M
-is-good-spec =
+pub good-spec : {M : Type 1} → statement M
+good-spec =
     tie.close
     (tie.spec
     enum-known-c

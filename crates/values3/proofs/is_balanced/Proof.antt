@@ -1,8 +1,8 @@
--- `encode3::values::is_balanced` meets its contract. Assumes nothing.
+-- `values3::is_balanced` meets its contract. Assumes nothing.
 use borrow.Author.Needs.{needs}
-use Rattle.encode3.proofs.Tests.{balanced}
-use Rattle.encode3.proofs.values.is_balanced.Statement.{statement}
-use Rattle.encode3.proofs.values.is_balanced.Tie as tie
+use Rattle.values3.proofs.Tests.{balanced}
+use Rattle.values3.proofs.is_balanced.Statement.{statement}
+use Rattle.values3.proofs.is_balanced.Tie as tie
 
 weigh-requires : tie.Need-weigh-requires
 weigh-requires c κs = tt
