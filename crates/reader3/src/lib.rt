@@ -51,7 +51,8 @@ fn is_said(b: &[u8], at: usize, n: u16) -> bool
 {
     let high = (n / 256) as u8;
     let low = (n % 256) as u8;
-    (b[at] == STUFFING) & ((b[at + 1] == high ^ KEY) & ((b[at + 2] == STUFFING) & (b[at + 3] == low ^ KEY)))
+    (b[at] == STUFFING)
+        & ((b[at + 1] == high ^ KEY) & ((b[at + 2] == STUFFING) & (b[at + 3] == low ^ KEY)))
 }
 
 // Is the check sum right?

@@ -66,8 +66,8 @@ returns c =
     let f = fits-room rehamove3 p out (s .args .used) (right .size) (right .values) room in
     let all = take-all (length p - 2) (drop 2 p) (rw length-drop (omega arith)) in (
       rw (toZ-ofZ fits) (ap (λ (d : Decoded). record { answer = 0; used = s .args .used; packet = d .packet; message = d .message; size = length p - 2; charge = d .charge }) (s .pre .1 .0 ∙ right .takes)
-      ∙ ap (λ (n : ℕ). asRead (record { answer = 0; used = s .args .used; packet = packetIn p; command = messageIn p; size = n })) (sym (length-drop 2 p))
-      ∙ ap asRead (f .0)),
+          ∙ ap (λ (n : ℕ). asRead (record { answer = 0; used = s .args .used; packet = packetIn p; command = messageIn p; size = n })) (sym (length-drop 2 p))
+          ∙ ap asRead (f .0)),
       c .before .before .before .before .copy .ensures ∙ ap (λ (l : List ℕ). overlay l out) all ∙ overlay-fits (drop 2 p) out room ∙ f .1,
     )
 
