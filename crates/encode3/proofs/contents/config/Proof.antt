@@ -1,15 +1,15 @@
 -- `encode3::contents::config` meets its contract. The loop's invariant: the bytes are the content of the points so far, and the size is theirs.
 -- Assumes nothing.
-use mathlib.Core.Path.{_≡_, refl, sym, ap, ap₂, _∙_}
+use mathlib.Core.Path.{_≡_, ap, ap₂, _∙_}
 use mathlib.Core.Bool.{true}
 use mathlib.Core.List.{List, [], _∷_, _++_}
 use Prim.Native.Nat.{ℕ, _+_, _*_, _-_, _≤_}
 use native.Mathlib.Omega.{arith}
-use lib.ListN.{length, take, length-take}
+use lib.ListN.{take, length-take}
 use borrow.Author.Needs.{needs}
 use Rattle.charge.specs.Charge.{ofPaper}
 use Rattle.charge.proofs.Points.{noPoint, all-at}
-use Rattle.commands3.specs.Points.{wordOf, bytesOf}
+use Rattle.commands3.specs.Points.{bytesOf}
 use Rattle.commands3.specs.Contents.{two}
 use Rattle.commands3.proofs.Points.{length-bytes}
 use Rattle.encode3.specs.Encoded.{byValue}
@@ -33,10 +33,10 @@ unfolding bytesOf
 loop-holds c = (omega arith, omega arith, c .front .ensures)
 
 mul-word : tie.Need-mul-word Inv-loop μ-loop
-mul-word c = search needs
+mul-word c = record { fits = omega arith }
 
 array-copy-out-word : tie.Need-array-copy-out-word Inv-loop μ-loop
-array-copy-out-word c = search needs
+array-copy-out-word c = omega arith
 
 word-requires : tie.Need-word-requires Inv-loop μ-loop
 word-requires c κs =
@@ -44,46 +44,46 @@ word-requires c κs =
     all-at ofPaper (start .args .t4) (c .before .before .loop .i) noPoint (omega (arith, start .good)) (start .pre .1)
 
 cast-bytes : tie.Need-cast-bytes Inv-loop μ-loop
-cast-bytes c = search needs
+cast-bytes c = record { fits = omega arith }
 
 array-write-bytes : tie.Need-array-write-bytes Inv-loop μ-loop
-array-write-bytes c = search needs
+array-write-bytes c = omega arith
 
 cast-bytes-2 : tie.Need-cast-bytes-2 Inv-loop μ-loop
-cast-bytes-2 c = search needs
+cast-bytes-2 c = record { fits = omega arith }
 
 add-bytes : tie.Need-add-bytes Inv-loop μ-loop
-add-bytes c = search needs
+add-bytes c = record { fits = omega arith }
 
 array-write-bytes-2 : tie.Need-array-write-bytes-2 Inv-loop μ-loop
-array-write-bytes-2 c = search needs
+array-write-bytes-2 c = omega arith
 
 cast-bytes-3 : tie.Need-cast-bytes-3 Inv-loop μ-loop
-cast-bytes-3 c = search needs
+cast-bytes-3 c = record { fits = omega arith }
 
 add-bytes-2 : tie.Need-add-bytes-2 Inv-loop μ-loop
-add-bytes-2 c = search needs
+add-bytes-2 c = record { fits = omega arith }
 
 array-write-bytes-3 : tie.Need-array-write-bytes-3 Inv-loop μ-loop
-array-write-bytes-3 c = search needs
+array-write-bytes-3 c = omega arith
 
 cast-bytes-4 : tie.Need-cast-bytes-4 Inv-loop μ-loop
-cast-bytes-4 c = search needs
+cast-bytes-4 c = record { fits = omega arith }
 
 add-bytes-3 : tie.Need-add-bytes-3 Inv-loop μ-loop
-add-bytes-3 c = search needs
+add-bytes-3 c = record { fits = omega arith }
 
 array-write-bytes-4 : tie.Need-array-write-bytes-4 Inv-loop μ-loop
-array-write-bytes-4 c = search needs
+array-write-bytes-4 c = omega arith
 
 add-size : tie.Need-add-size Inv-loop μ-loop
-add-size c = search needs
+add-size c = record { fits = omega arith }
 
 add-i : tie.Need-add-i Inv-loop μ-loop
-add-i c = search needs
+add-i c = record { fits = omega arith }
 
 loop-less : tie.Need-loop-less Inv-loop μ-loop
-loop-less c = search needs
+loop-less c = omega arith
 
 loop-again : tie.Need-loop-again Inv-loop μ-loop
 loop-again c =
@@ -91,8 +91,8 @@ loop-again c =
     let start = c .before .before .before .before .before in
     let a = start .args in
     let front : List ℕ = two (a .head) ++ a .first ∷ [] in (
-      search needs,
-      search needs,
+      omega arith,
+      omega arith,
       rw (l .inv .2) (turn front (a .t4) (l .i) (l .size) _ noPoint (omega (arith, start .good)) (l .inv .1) (omega arith) (c .word .ensures)),
     )
 
