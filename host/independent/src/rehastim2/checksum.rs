@@ -1,5 +1,6 @@
 //! The checksum: "a CRC-8-CCITT (x⁸ + x² + x + 1; 0x07)", section 2.2.
 
+use crate::packets::turned_remainder;
 use crc::crc16;
 use std::sync::LazyLock;
 
@@ -10,12 +11,10 @@ static TABLE: LazyLock<[u16; 256]> = LazyLock::new(|| crc16::make_table(TURNED))
 
 /// The checksum of these bytes, highest bit first, from 0 on, nothing added at the end.
 ///
-/// The crate takes the lowest bit first and has no CRC of 8 bits. So every byte is turned round, and
-/// what comes out too; the polynomial has no bit above the lowest 8, so that none is ever set there.
-/// Its start and its end are complemented, and are so once more here.
+/// The crate has no CRC of 8 bits. But the polynomial has no bit above the lowest 8, so that none is
+/// ever set there.
 pub fn checksum(bytes: &[u8]) -> u8 {
-    let turned: Vec<u8> = bytes.iter().map(|byte| byte.reverse_bits()).collect();
-    let [low, high] = (!crc16::update(!0, &TABLE, &turned)).to_le_bytes();
+    let [low, high] = turned_remainder(&TABLE, bytes).to_le_bytes();
     assert_eq!(high, 0);
     low.reverse_bits()
 }

@@ -1,14 +1,8 @@
 //! Reading and writing whole packets, with the tests of request 12 in their order.
 
-use super::grammar::{always_stuffed, packet, unstuffed, KEY, START, STOP, STUFFING};
 use super::{checksum, Command};
-
-/// The numbers that request 12 answers by.
-const DONE: u8 = 0;
-const UNFINISHED: u8 = 1;
-const WRONG_CHECKSUM: u8 = 3;
-const NOT_GOOD: u8 = 4;
-const OUTPUT_TOO_SHORT: u8 = 16;
+use crate::packets::answer::{DONE, NOT_GOOD, OUTPUT_TOO_SHORT, UNFINISHED, WRONG_CHECKSUM};
+use crate::packets::{always_stuffed, packet, stuffed, unstuffed, KEY, START, STOP, STUFFING};
 
 /// "Command data < 61 Byte" (table 5).
 const LONGEST: usize = 60;
@@ -71,14 +65,7 @@ pub fn write(packet: u8, command: Command) -> Option<Vec<u8>> {
 /// The packet of any command with any data. It tests nothing: a length too great for its byte loses
 /// what is above.
 pub fn compose(packet: u8, number: u8, data: &[u8]) -> Vec<u8> {
-    let mut covered = Vec::new();
-    for &byte in [packet, number].iter().chain(data) {
-        if [START, STOP, STUFFING].contains(&byte) {
-            covered.extend([STUFFING, byte ^ KEY]);
-        } else {
-            covered.push(byte);
-        }
-    }
+    let covered = stuffed(&[&[packet, number], data].concat());
     let length = covered.len() as u8;
     let mut whole = vec![START, STUFFING, checksum(&covered) ^ KEY, STUFFING, length ^ KEY];
     whole.extend(covered);

@@ -1,9 +1,10 @@
 //! The commands, with the tables of sections 4.1 to 4.3.
 
-use nom::combinator::{all_consuming, map, success};
+use crate::packets::whole;
+use nom::combinator::{map, success};
 use nom::number::complete::{be_u16, i8, u8};
 use nom::sequence::tuple;
-use nom::{Finish, IResult};
+use nom::IResult;
 
 /// InitChannelListMode.
 #[derive(Clone, Copy, Debug, Default, PartialEq, Eq)]
@@ -137,10 +138,4 @@ fn channel_list(data: &[u8]) -> IResult<&[u8], ChannelList> {
         channel_execution: execution,
     };
     map(tuple((u8, u8, u8, u8, be_u16, u8)), of_fields)(data)
-}
-
-/// What the data is, with no byte left over.
-fn whole<'a, T>(what: impl Fn(&'a [u8]) -> IResult<&'a [u8], T>, data: &'a [u8]) -> Option<T> {
-    let (_, found) = all_consuming(what)(data).finish().ok()?;
-    Some(found)
 }

@@ -2,13 +2,12 @@
 //! RehaStim2 Stimulation Device, Description and Protocol", version 1.24. Where that leaves a choice
 //! it follows document 02, request 12, and then the repository's decisions.
 //!
-//! `grammar` has what stands between the bytes of a stream as a grammar, `checksum` the checksum by
-//! another CRC's code, `command` the tables of the commands, and `codec` the tests in their order.
+//! `checksum` has the checksum by another CRC's code, `command` the tables of the commands, and `codec`
+//! the tests in their order.
 
 mod checksum;
 mod codec;
 mod command;
-mod grammar;
 
 pub use checksum::checksum;
 pub use codec::{compose, read, write, Reading};

@@ -1,5 +1,6 @@
 //! What stands between the bytes of a stream: packets, the fields of their header, stuffed bytes.
 
+use super::{is_stuffed, KEY, START, STOP, STUFFING};
 use nom::branch::alt;
 use nom::bytes::complete::{tag, take, take_while1};
 use nom::combinator::{all_consuming, map, opt, peek, recognize, value, verify};
@@ -8,16 +9,10 @@ use nom::number::complete::u8;
 use nom::sequence::{delimited, pair, preceded, terminated};
 use nom::{Finish, IResult};
 
-/// Table 6.
-pub const START: u8 = 0xF0;
-pub const STOP: u8 = 0x0F;
-pub const STUFFING: u8 = 0x81;
-pub const KEY: u8 = 0x55;
-
 /// Bytes that neither start nor stop a packet. One straight after 81 does neither, whatever it is.
 fn silent(bytes: &[u8]) -> IResult<&[u8], &[u8]> {
     let stuffed = recognize(pair(take_while1(|byte| byte == STUFFING), opt(take(1usize))));
-    let other = take_while1(|byte| ![START, STOP, STUFFING].contains(&byte));
+    let other = take_while1(|byte| !is_stuffed(byte));
     alt((stuffed, other))(bytes)
 }
 
@@ -54,10 +49,16 @@ pub fn unstuffed(bytes: &[u8]) -> Option<Vec<u8>> {
         value(START, tag([STUFFING, START ^ KEY])),
         value(STOP, tag([STUFFING, STOP ^ KEY])),
         value(STUFFING, tag([STUFFING, STUFFING ^ KEY])),
-        verify(u8::<&[u8], nom::error::Error<&[u8]>>, |byte| {
-            ![START, STOP, STUFFING].contains(byte)
-        }),
+        verify(u8::<&[u8], nom::error::Error<&[u8]>>, |byte| !is_stuffed(*byte)),
     ));
-    let (_, plain) = all_consuming(many0(byte))(bytes).finish().ok()?;
-    Some(plain)
+    whole(many0(byte), bytes)
+}
+
+/// What the data is, with no byte left over.
+pub fn whole<'a, T>(
+    what: impl FnMut(&'a [u8]) -> IResult<&'a [u8], T>,
+    data: &'a [u8],
+) -> Option<T> {
+    let (_, found) = all_consuming(what)(data).finish().ok()?;
+    Some(found)
 }
