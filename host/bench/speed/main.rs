@@ -11,6 +11,8 @@ mod frames;
 mod meter;
 mod names;
 mod packets;
+#[path = "../../tests/shared/random_bytes.rs"]
+mod random_bytes;
 #[path = "../../tests/shared/random_packets.rs"]
 mod random_packets;
 mod ring;

@@ -25,6 +25,8 @@ mod lent;
 mod numbers;
 mod pick;
 mod profiles;
+#[path = "../../tests/shared/random_bytes.rs"]
+mod random_bytes;
 #[path = "../../tests/shared/random_packets.rs"]
 mod random_packets;
 mod three;

@@ -1,7 +1,8 @@
 //! All packets of a capture.
 
 use crate::agree::ours;
-use crate::random_packets::{bytes, damaged, packet};
+use crate::random_bytes::{bytes, damaged};
+use crate::random_packets::packet;
 use crate::seeded::seeded;
 use independent::rehastim2::{compose, read};
 use rand::Rng;

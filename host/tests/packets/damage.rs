@@ -1,7 +1,8 @@
 //! Packets that are damaged or cut.
 
 use crate::agree::{self, refused};
-use crate::random_packets::{byte, packet};
+use crate::random_bytes::byte;
+use crate::random_packets::packet;
 use crate::seeded::seeded;
 
 /// Every byte replaced by every other: none is overlooked.

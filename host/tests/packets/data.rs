@@ -1,7 +1,8 @@
 //! Data of every length and of every byte.
 
 use crate::agree::{self, refused};
-use crate::random_packets::{byte, command};
+use crate::random_bytes::byte;
+use crate::random_packets::command;
 use crate::seeded::seeded;
 use independent::rehastim2::{checksum, compose, Command, Reading};
 use rand::Rng;

@@ -1,7 +1,8 @@
 //! What stands before and behind a packet.
 
 use crate::agree::{self, refused};
-use crate::random_packets::{bytes, damaged, packet};
+use crate::random_bytes::{bytes, damaged};
+use crate::random_packets::packet;
 use crate::seeded::seeded;
 use independent::rehastim2::Reading;
 
@@ -124,7 +125,7 @@ fn bytes_behind_the_stop() {
             if alone.answer == 1 {
                 continue;
             }
-            bytes.extend(crate::random_packets::bytes(rng, 20));
+            bytes.extend(crate::random_bytes::bytes(rng, 20));
             assert_eq!(agree::read(&bytes, 60), alone);
         }
     });

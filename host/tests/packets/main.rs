@@ -2,6 +2,8 @@
 //! independent codec and against what source 000 and document 02 say outright.
 
 mod agree;
+#[path = "../shared/random_bytes.rs"]
+mod random_bytes;
 #[path = "../shared/random_packets.rs"]
 mod random_packets;
 #[path = "../shared/seeded.rs"]

@@ -1,7 +1,8 @@
 //! Millions of packets, whole and damaged, and of bytes that are none.
 
 use crate::agree;
-use crate::random_packets::{byte, bytes, command, damaged, packet};
+use crate::random_bytes::{byte, bytes, damaged};
+use crate::random_packets::{command, packet};
 use crate::seeded::seeded;
 use rand::rngs::SmallRng;
 use rand::Rng;

@@ -1,7 +1,8 @@
 //! Outputs of every length. `agree` compares all bytes in and around them.
 
 use crate::agree::{self, refused, ROOM};
-use crate::random_packets::{byte, command};
+use crate::random_bytes::byte;
+use crate::random_packets::command;
 use crate::seeded::seeded;
 use independent::rehastim2::{compose, write};
 use rand::Rng;

@@ -1,7 +1,8 @@
 //! Reading what was written, and writing what was read, through what a host program uses alone.
 
 use crate::agree::ours;
-use crate::random_packets::{byte, bytes, command, packet};
+use crate::random_bytes::{byte, bytes};
+use crate::random_packets::{command, packet};
 use crate::seeded::seeded;
 use yarrowbell::rehastim2::{read, write, Command, NotWritten, LONGEST_DATA, LONGEST_WRITTEN};
 

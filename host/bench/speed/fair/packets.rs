@@ -1,7 +1,8 @@
 //! Packets, read and written on every side.
 
 use super::same::same_three;
-use crate::random_packets::{byte, command, damaged, packet};
+use crate::random_bytes::{byte, damaged};
+use crate::random_packets::{command, packet};
 use crate::seeded::seeded;
 use independent::plain::rehastim2 as plain;
 use independent::rehastim2::{self as independently, Command};

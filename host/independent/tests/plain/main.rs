@@ -4,6 +4,8 @@
 mod naive;
 mod played;
 mod random;
+#[path = "../../../tests/shared/random_bytes.rs"]
+mod random_bytes;
 #[path = "../../../tests/shared/random_packets.rs"]
 mod random_packets;
 mod script;

@@ -1,6 +1,7 @@
 //! The fast codec of packets against the slow one.
 
-use crate::random_packets::{bytes, command, damaged, packet};
+use crate::random_bytes::{bytes, damaged};
+use crate::random_packets::{command, packet};
 use crate::seeded::seeded;
 use independent::plain::codec::Wrote;
 use independent::plain::rehastim2::{self as fast, Read};

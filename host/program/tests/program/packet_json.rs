@@ -1,5 +1,7 @@
 //! `packet read --json` and `packet write --json`, compared with the independent codec.
 
+#[path = "../../../tests/shared/random_bytes.rs"]
+mod random_bytes;
 #[path = "../../../tests/shared/random_packets.rs"]
 mod random_packets;
 
@@ -10,7 +12,8 @@ use crate::seeded::seeded;
 use crate::table::object;
 use independent::rehastim2::{read, write, ChannelList, Command, Reading};
 use rand::Rng;
-use random_packets::{bytes, command, damaged, packet};
+use random_bytes::{bytes, damaged};
+use random_packets::{command, packet};
 use serde_json::{json, Value};
 use std::path::Path;
 

@@ -1,7 +1,8 @@
 //! Random rows of bytes, for a reader of packets.
 
 use crate::pick::{any, once_in, weighted};
-use crate::random_packets::{byte, bytes, damaged, packet};
+use crate::random_bytes::{byte, bytes, damaged};
+use crate::random_packets::packet;
 use independent::rehastim2::{checksum, compose};
 use rand::rngs::SmallRng;
 use rand::Rng;

@@ -1,5 +1,7 @@
 //! Reasons for what the library answers to random captures.
 
+#[path = "../../../../../tests/shared/random_bytes.rs"]
+mod random_bytes;
 #[path = "../../../../../tests/shared/random_packets.rs"]
 mod random_packets;
 
@@ -10,7 +12,8 @@ use crate::packet::rehastim2::stuffing::{stuffed, START, STOP};
 use crate::packet::rehastim2::{checksum, layout};
 use rand::rngs::SmallRng;
 use rand::{Rng, SeedableRng};
-use random_packets::{bytes, damaged, packet};
+use random_bytes::{bytes, damaged};
+use random_packets::packet;
 use std::collections::BTreeMap;
 use yarrowbell::rehastim2::{packets, Found};
 
