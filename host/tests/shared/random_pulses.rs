@@ -84,10 +84,8 @@ fn pair(rng: &mut SmallRng) -> [Point; 2] {
     let current = rng.gen_range(0..=260 / times);
     let [first, second] = [300 + current * times, 300 - current];
     let turned = rng.gen();
-    [(short, first), (short * times, second)].map(|(duration, code)| Point {
-        duration,
-        code: if turned { 600 - code } else { code },
-    })
+    [(short, first), (short * times, second)]
+        .map(|(duration, code)| Point { duration, code: if turned { 600 - code } else { code } })
 }
 
 fn duration(rng: &mut SmallRng) -> u16 {

@@ -4,5 +4,7 @@
 mod answer;
 pub mod codec;
 pub mod machine;
+mod packets;
+pub mod rehamove3;
 pub mod rehastim2;
 pub mod ring;

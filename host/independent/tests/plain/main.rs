@@ -1,6 +1,7 @@
 //! The fast codecs and the fast ring against the slow ones; the box against what document 01 says
 //! outright, and along random histories.
 
+mod counted;
 mod naive;
 mod played;
 mod random;
@@ -8,6 +9,8 @@ mod random;
 mod random_bytes;
 #[path = "../../../tests/shared/random_packets.rs"]
 mod random_packets;
+#[path = "../../../tests/shared/random_pulses.rs"]
+mod random_pulses;
 mod script;
 #[path = "../../../tests/shared/seeded.rs"]
 mod seeded;
@@ -19,4 +22,6 @@ mod packets;
 mod pairs;
 mod papers;
 mod profiles;
+mod pulses_read;
+mod pulses_written;
 mod ring;

@@ -1,5 +1,6 @@
-//! The fast codec of packets against the slow one.
+//! The fast codec of the RehaStim2's packets against the slow one.
 
+use crate::counted::counted;
 use crate::random_bytes::{bytes, damaged};
 use crate::random_packets::{command, packet};
 use crate::seeded::seeded;
@@ -29,13 +30,6 @@ fn room(rng: &mut SmallRng) -> usize {
     } else {
         60
     }
-}
-
-/// How often each answer was given.
-fn counted(seeds: std::ops::Range<u64>, mut case: impl FnMut(&mut SmallRng) -> u8) -> [u32; 17] {
-    let mut answers = [0; 17];
-    seeded(seeds, |rng| answers[usize::from(case(rng))] += 1);
-    answers
 }
 
 #[test]

@@ -1,20 +1,12 @@
-//! The packets of source 000, searched by words of eight bytes, the checksum by a table.
+//! The packets of source 000, the checksum by a table.
 
 mod checksum;
-mod framing;
 mod read;
-mod stuffing;
 mod values;
 mod write;
 
 pub use read::{read, Read};
 pub use write::write;
-
-/// Table 6.
-const START: u8 = 0xF0;
-const STOP: u8 = 0x0F;
-const STUFFING: u8 = 0x81;
-const KEY: u8 = 0x55;
 
 /// The values of section 3 that request 12 names.
 const INIT: u8 = 1;

@@ -1,9 +1,9 @@
 //! The reader: 1, 3, 4, 16.
 
 use super::checksum::checksum;
-use super::stuffing::unstuffed;
-use super::{framing, values, KEY, MOST, STUFFING};
+use super::{values, MOST};
 use crate::plain::answer::{DONE, NOT_GOOD, OUTPUT_TOO_SHORT, UNFINISHED, WRONG_CHECK};
+use crate::plain::packets::{self, unstuffed, KEY, STUFFING};
 use crate::rehastim2::Command;
 
 /// Any packet, with the size of its data. There is no command, and there are zeros, unless the answer
@@ -20,7 +20,7 @@ pub struct Read {
 /// Reads the first packet of `bytes`, and puts its data to the start of `out`.
 #[inline(never)]
 pub fn read(bytes: &[u8], out: &mut [u8]) -> Read {
-    let Some((content, used)) = framing::packet(bytes) else {
+    let Some((content, used)) = packets::packet(bytes) else {
         return Read { answer: UNFINISHED, ..Read::default() };
     };
     let mut room = [0; MOST];

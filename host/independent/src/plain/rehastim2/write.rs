@@ -1,14 +1,14 @@
 //! The writer: 4, 16.
 
 use super::checksum::checksum;
-use super::stuffing::{is_stuffed, stuff};
 use super::values::{good_list, good_mode, good_result};
 use super::{
     GET_STIMULATION_MODE, GET_STIMULATION_MODE_ACK, INIT, INIT_ACK, INIT_CHANNEL_LIST_MODE,
-    INIT_CHANNEL_LIST_MODE_ACK, KEY, START, STOP, STUFFING, UNKNOWN_COMMAND, WATCHDOG,
+    INIT_CHANNEL_LIST_MODE_ACK, UNKNOWN_COMMAND, WATCHDOG,
 };
 use crate::plain::answer::{NOT_GOOD, OUTPUT_TOO_SHORT};
 use crate::plain::codec::Wrote;
+use crate::plain::packets::{is_stuffed, stuff, KEY, START, STOP, STUFFING};
 use crate::rehastim2::Command;
 
 /// Writes the packet of a command to the start of `out`.

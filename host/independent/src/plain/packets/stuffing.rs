@@ -1,16 +1,17 @@
-//! "Every constant from Table 6, except the stuffing key, is escaped with the stuffing byte [..] The
-//! value is then XORed with the stuffing key."
+//! "Every constant [..], except the stuffing key, is escaped with the stuffing byte [..] The value is
+//! then XORed with the stuffing key."
 
-use super::{KEY, MOST, START, STOP, STUFFING};
+use super::{KEY, START, STOP, STUFFING};
 
 #[inline(always)]
-pub(super) fn is_stuffed(byte: u8) -> bool {
+pub fn is_stuffed(byte: u8) -> bool {
     matches!(byte, START | STOP | STUFFING)
 }
 
 /// The bytes that were stuffed to these; none where a pair is none of the three, or there are too
-/// many. A start or a stop by itself cannot stand here: it would have been one.
-pub(super) fn unstuffed<'a>(stuffed: &[u8], room: &'a mut [u8; MOST]) -> Option<&'a [u8]> {
+/// many. A start or a stop by itself is not looked for: it would have been one, unless it came first
+/// and the header ended in a stuffing byte.
+pub fn unstuffed<'a>(stuffed: &[u8], room: &'a mut [u8]) -> Option<&'a [u8]> {
     let mut length = 0;
     let mut rest = stuffed.iter();
     while let Some(&byte) = rest.next() {
@@ -25,7 +26,7 @@ pub(super) fn unstuffed<'a>(stuffed: &[u8], room: &'a mut [u8; MOST]) -> Option<
 }
 
 /// Stuffs the bytes to an output that is as long as that makes them.
-pub(super) fn stuff(plain: &[u8], out: &mut [u8]) {
+pub fn stuff(plain: &[u8], out: &mut [u8]) {
     let mut room = out.iter_mut();
     let mut put = |byte| {
         if let Some(place) = room.next() {

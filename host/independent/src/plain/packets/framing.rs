@@ -7,7 +7,7 @@ const WORD: usize = 8;
 /// What stands between the start and the stop of the first packet that has a stop, and how many bytes
 /// there are to that stop.
 #[inline(always)]
-pub(super) fn packet(bytes: &[u8]) -> Option<(&[u8], usize)> {
+pub fn packet(bytes: &[u8]) -> Option<(&[u8], usize)> {
     // The place behind the start of the packet that is open.
     let mut open = None;
     let mut mark = |place: usize| {
