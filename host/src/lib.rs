@@ -15,6 +15,7 @@ mod cause;
 mod frames;
 mod guard;
 mod not_done;
+mod packets;
 mod profile;
 pub mod raw;
 mod records;

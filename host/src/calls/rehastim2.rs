@@ -1,8 +1,9 @@
 //! The calls for ScienceMode2 packets.
 
-use crate::raw::{
-    self, ReadEcho, ReadEmpty, ReadList, ReadMode, ReadPacket, ReadResult, ReadVersion, Wrote,
+use crate::raw::rehastim2::{
+    self as raw, ReadEcho, ReadEmpty, ReadList, ReadMode, ReadPacket, ReadResult, ReadVersion,
 };
+use crate::raw::Wrote;
 use crate::rehastim2::ChannelList;
 
 /// Reads the first packet of `bytes`, of whatever command, puts its data to the start of `out`, and

@@ -9,13 +9,14 @@
 //! - a byte slice `s` is passed as a pointer `s` and then its length `s_length`, as two parameters;
 //! - a call neither keeps a pointer nor goes past its length, and is given to itself what it may
 //!   write.
+//!
+//! The exports for the packets of a device are in a module of that device's name.
 
 mod boxes;
 mod frames;
-mod packets;
+pub mod rehastim2;
 mod ring;
 
 pub use boxes::*;
 pub use frames::*;
-pub use packets::*;
 pub use ring::*;

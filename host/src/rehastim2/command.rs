@@ -1,7 +1,7 @@
 //! The commands.
 
 use super::{ErrorCode, StimulationMode};
-use crate::raw::ReadPacket;
+use crate::raw::rehastim2::ReadPacket;
 
 /// A command (source 000, section 3). Any value can be asked to be written; one that is not good is
 /// refused.

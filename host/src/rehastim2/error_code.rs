@@ -1,6 +1,6 @@
 //! The results of the responses.
 
-use std::fmt;
+use crate::packets::named;
 
 /// A result, 0 to -8 (source 000, section 5.1); no other is read or written.
 ///
@@ -14,30 +14,8 @@ use std::fmt;
 #[derive(Clone, Copy, Debug, PartialEq, Eq)]
 pub struct ErrorCode(pub i8);
 
-/// Makes the codes of a table: number, name, words.
-macro_rules! codes {
-    ($($number:literal $name:ident $words:literal)*) => {
-        impl ErrorCode {
-            $(
-                #[doc = concat!(stringify!($number), ": ", $words, ".")]
-                pub const $name: ErrorCode = ErrorCode($number);
-            )*
-
-            /// Every code, in the order of the table.
-            pub const ALL: [ErrorCode; [$($number),*].len()] = [$(ErrorCode::$name),*];
-
-            /// What the paper calls it; nothing if it is none of the table.
-            pub fn words(self) -> Option<&'static str> {
-                match self.0 {
-                    $($number => Some($words),)*
-                    _ => None,
-                }
-            }
-        }
-    };
-}
-
-codes! {
+named! {
+    ErrorCode, none: "no error code",
     0 NO_ERROR "No error"
     -1 TRANSFER_ERROR "Transfer error"
     -2 PARAMETER_ERROR "Parameter error"
@@ -47,10 +25,4 @@ codes! {
     -6 INVALID_MOTOMED_TRAINER "Invalid Motomed trainer"
     -7 MOTOMED_BUSY_ERROR "Motomed busy error"
     -8 BUSY_ERROR "Busy error"
-}
-
-impl fmt::Display for ErrorCode {
-    fn fmt(&self, out: &mut fmt::Formatter) -> fmt::Result {
-        out.pad(self.words().unwrap_or("no error code"))
-    }
 }

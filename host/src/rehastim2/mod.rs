@@ -17,13 +17,14 @@
 
 mod command;
 mod error_code;
-mod not_done;
+mod not_written;
 mod packets;
 mod stimulation_mode;
 
+pub use crate::packets::NotRead;
 pub use command::{ChannelList, Command};
 pub use error_code::ErrorCode;
-pub use not_done::{NotRead, NotWritten};
+pub use not_written::NotWritten;
 pub use packets::{packets, Found, Packets};
 pub use stimulation_mode::StimulationMode;
 

@@ -1,32 +1,27 @@
 //! All packets of a capture.
 
-use super::{read, NotRead, Packet, LONGEST_DATA};
-use std::iter::FusedIterator;
-use std::ops::Range;
+use super::{read, Packet, LONGEST_DATA};
+use crate::packets::{self, Captured, NotRead};
 
 /// The packets of a capture, one behind the other.
-#[derive(Clone, Debug)]
-pub struct Packets<'a> {
-    bytes: &'a [u8],
-    /// Where the next one is looked for.
-    at: usize,
-}
+pub type Packets<'a> = packets::Packets<'a, Packet>;
 
 /// What was found behind the packet before, or at the capture's start.
-#[derive(Clone, Debug, PartialEq, Eq)]
-pub struct Found {
-    /// The bytes used, counted from the capture's start: garbage before the packet, and the packet to
-    /// its stop; all the rest of the capture if no packet is finished in it.
-    pub place: Range<usize>,
-    /// The packet, or why there was none to read.
-    pub packet: Result<Packet, NotRead>,
-    room: [u8; LONGEST_DATA],
-}
+pub type Found = packets::Found<Packet>;
 
-impl Found {
-    /// The data of the packet's command; nothing if none was read.
-    pub fn data(&self) -> &[u8] {
-        &self.room[..self.packet.map_or(0, |packet| packet.size)]
+impl Captured for Packet {
+    const LONGEST_DATA: usize = LONGEST_DATA;
+
+    fn read(bytes: &[u8], data: &mut [u8]) -> Result<Packet, NotRead> {
+        read(bytes, data)
+    }
+
+    fn size(&self) -> usize {
+        self.size
+    }
+
+    fn used(&self) -> usize {
+        self.used
     }
 }
 
@@ -48,28 +43,5 @@ impl Found {
 /// assert_eq!(found.len(), 4);
 /// ```
 pub fn packets(bytes: &[u8]) -> Packets<'_> {
-    Packets { bytes, at: 0 }
+    Packets::of(bytes)
 }
-
-impl Iterator for Packets<'_> {
-    type Item = Found;
-
-    fn next(&mut self) -> Option<Found> {
-        let rest = &self.bytes[self.at..];
-        if rest.is_empty() {
-            return None;
-        }
-        let mut room = [0; LONGEST_DATA];
-        let packet = read(rest, &mut room);
-        let used = match packet {
-            Ok(packet) => packet.used,
-            Err(NotRead::Unfinished) => rest.len(),
-            Err(why) => why.used(),
-        };
-        let place = self.at..self.at + used;
-        self.at = place.end;
-        Some(Found { place, packet, room })
-    }
-}
-
-impl FusedIterator for Packets<'_> {}

@@ -80,8 +80,13 @@ extern "C" {
 "#;
 
 fn compared(rattle: &str, rust: &str) -> Vec<String> {
-    let exported = gathered(rattle::items("lib.rt", rattle));
-    differences(&exported, &gathered(rust::items("raw.rs", rust)))
+    compared_in(&[("lib.rt", rattle)], &[("raw.rs", rust)])
+}
+
+fn compared_in(rattle: &[(&str, &str)], rust: &[(&str, &str)]) -> Vec<String> {
+    let exported = rattle.iter().flat_map(|(file, text)| rattle::items(file, text));
+    let declared = rust.iter().flat_map(|(file, text)| rust::items(file, text));
+    differences(&gathered(exported), &gathered(declared))
 }
 
 pub fn changed(text: &str, from: &str, to: &str) -> String {
@@ -216,6 +221,38 @@ fn a_struct_without_its_layout() {
             ["struct Said stands in lib.rt alone"]
         );
     }
+}
+
+/// A struct `Read` of each of two devices, with this field in that of the second.
+fn of_two_devices(field: &str) -> Vec<String> {
+    let rattle = |device: &str, field: &str| {
+        let read = format!("#[repr(C)]\npub struct Read {{ pub {field}: u8 }}\n");
+        read + &format!("pub extern \"C\" fn yarrowbell_{device}_read(n: u8) -> Read {{")
+    };
+    let rust = |device: &str, field: &str| {
+        let read = format!("#[repr(C)]\npub struct Read {{ pub {field}: u8 }}\n");
+        read + &format!("extern \"C\" {{ fn yarrowbell_{device}_read(n: u8) -> Read; }}")
+    };
+    compared_in(
+        &[
+            ("crates/a/src/one.rt", &rattle("rehastim2", "mode")),
+            ("crates/b/src/two.rt", &rattle("rehamove3", "points")),
+        ],
+        &[
+            ("host/src/raw/x/one.rs", &rust("rehamove3", field)),
+            ("host/src/raw/y.rs", &rust("rehastim2", "mode")),
+        ],
+    )
+}
+
+#[test]
+fn a_name_for_a_struct_of_each_device() {
+    assert_eq!(of_two_devices("points"), [""; 0]);
+    assert_eq!(
+        of_two_devices("mode"),
+        ["struct Read of rehamove3, field 1: crates/b/src/two.rt has `points: u8`, \
+          host/src/raw/x/one.rs has `mode: u8`"]
+    );
 }
 
 #[test]

@@ -8,6 +8,9 @@ use syn::{Field, FnArg, ItemConst, ItemStruct, Pat, ReturnType, Signature};
 /// The items of one side by what they are and their names, as `struct Init`.
 pub type Items = BTreeMap<String, Item>;
 
+/// The devices, as the names of their functions have them: `yarrowbell_rehamove3_read`.
+const DEVICES: [&str; 2] = ["rehastim2", "rehamove3"];
+
 /// The file that an item stands in, and what it has in each place, as Rust declares it.
 pub struct Item {
     pub file: String,
@@ -34,16 +37,43 @@ impl fmt::Display for Place {
     }
 }
 
-/// No name may stand for two items.
+/// No name may stand for two items, but for structs of several devices, which are named after them.
 pub fn gathered(items: impl IntoIterator<Item = (String, Item)>) -> Items {
+    let items: Vec<(String, Item)> = items.into_iter().collect();
+    let named: Vec<String> =
+        items.iter().map(|(name, item)| told_apart(name, item, &items)).collect();
     let mut all = Items::new();
-    for (name, item) in items {
+    for (name, (_, item)) in named.into_iter().zip(items) {
         let file = item.file.clone();
         if let Some(other) = all.insert(name.clone(), item) {
             panic!("{name} stands in {} and in {file}", other.file);
         }
     }
     all
+}
+
+/// The name of an item, with its device if there are others of the same name.
+fn told_apart(name: &str, item: &Item, all: &[(String, Item)]) -> String {
+    let others = all.iter().filter(|(other, _)| other == name).count() > 1;
+    match device(home(&item.file), all) {
+        Some(device) if others => format!("{name} of {device}"),
+        _ => name.to_owned(),
+    }
+}
+
+/// The crate of Rattle, or the module of `raw`, that a file belongs to.
+fn home(file: &str) -> &str {
+    let folders = if file.starts_with("crates/") { 2 } else { 4 };
+    file.match_indices('/').nth(folders - 1).map_or(file, |(end, _)| &file[..end])
+}
+
+/// The device of the functions of a crate or module.
+fn device(at: &str, all: &[(String, Item)]) -> Option<&'static str> {
+    let mut functions = all.iter().filter(|(_, item)| home(&item.file) == at);
+    functions.find_map(|(name, _)| {
+        let named = |device: &&str| name.starts_with(&format!("fn yarrowbell_{device}_"));
+        DEVICES.into_iter().find(named)
+    })
 }
 
 pub fn of_struct(file: &str, item: &ItemStruct) -> (String, Item) {

@@ -1,7 +1,7 @@
 //! Each reading export on packets of every kind, without the help of the independent codec.
 
 use yarrowbell::calls::rehastim2::*;
-use yarrowbell::raw::{
+use yarrowbell::raw::rehastim2::{
     ReadEcho, ReadEmpty, ReadList, ReadMode, ReadPacket, ReadResult, ReadVersion,
 };
 

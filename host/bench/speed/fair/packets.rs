@@ -9,7 +9,8 @@ use independent::rehastim2::{self as independently, Command};
 use rand::Rng;
 use soak::packets::{alike, covered};
 use yarrowbell::calls::rehastim2 as calls;
-use yarrowbell::raw::{ReadPacket, Wrote};
+use yarrowbell::raw::rehastim2::ReadPacket;
+use yarrowbell::raw::Wrote;
 use yarrowbell::rehastim2::{LONGEST_DATA, LONGEST_WRITTEN};
 
 pub fn check() {

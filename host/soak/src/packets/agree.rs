@@ -5,9 +5,10 @@ use super::alike;
 use super::lent::Lent;
 use independent::rehastim2::{self as independently, Command, Reading};
 use yarrowbell::calls::rehastim2 as calls;
-use yarrowbell::raw::{
-    ReadEcho, ReadEmpty, ReadList, ReadMode, ReadPacket, ReadResult, ReadVersion, Wrote,
+use yarrowbell::raw::rehastim2::{
+    ReadEcho, ReadEmpty, ReadList, ReadMode, ReadPacket, ReadResult, ReadVersion,
 };
+use yarrowbell::raw::Wrote;
 use yarrowbell::rehastim2::{self, NotWritten};
 use yarrowbell::Answer;
 

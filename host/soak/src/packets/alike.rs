@@ -2,7 +2,8 @@
 
 use independent::rehastim2::{self as independently, Command, Reading};
 use yarrowbell::calls::rehastim2 as calls;
-use yarrowbell::raw::{ReadPacket, Wrote};
+use yarrowbell::raw::rehastim2::ReadPacket;
+use yarrowbell::raw::Wrote;
 use yarrowbell::rehastim2::{self, ChannelList, ErrorCode, StimulationMode};
 
 /// What the export for any command reports.

@@ -1,4 +1,4 @@
-//! Why no packet was read or written.
+//! Why no packet was read.
 
 use crate::Answer;
 use thiserror::Error;
@@ -54,7 +54,7 @@ impl NotRead {
     }
 
     /// What the library gave as its answer, or nothing if that is 0.
-    pub(super) fn known(number: u8, used: usize) -> Option<NotRead> {
+    pub(crate) fn known(number: u8, used: usize) -> Option<NotRead> {
         match Answer::known(number) {
             Answer::Done => None,
             Answer::Unfinished => Some(NotRead::Unfinished),
@@ -62,37 +62,6 @@ impl NotRead {
             Answer::NotGood => Some(NotRead::NotGood { used }),
             Answer::OutputTooShort => Some(NotRead::OutputTooShort),
             other => panic!("NotRead: {other:?}"),
-        }
-    }
-}
-
-/// Why no packet was written.
-#[derive(Clone, Copy, Debug, Error, PartialEq, Eq)]
-pub enum NotWritten {
-    /// A value is not good, or the command is [`Command::Other`](super::Command::Other).
-    #[error("answer 4: value not good, or a command that is not written")]
-    NotGood,
-    /// The output has fewer bytes than the packet.
-    #[error("answer 16: output too short for the packet")]
-    OutputTooShort,
-}
-
-impl NotWritten {
-    /// The answer of this name.
-    pub fn answer(self) -> Answer {
-        match self {
-            NotWritten::NotGood => Answer::NotGood,
-            NotWritten::OutputTooShort => Answer::OutputTooShort,
-        }
-    }
-
-    /// What the library gave as its answer, or nothing if that is 0.
-    pub(super) fn known(number: u8) -> Option<NotWritten> {
-        match Answer::known(number) {
-            Answer::Done => None,
-            Answer::NotGood => Some(NotWritten::NotGood),
-            Answer::OutputTooShort => Some(NotWritten::OutputTooShort),
-            other => panic!("NotWritten: {other:?}"),
         }
     }
 }
