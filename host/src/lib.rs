@@ -1,9 +1,11 @@
 //! Safe calls to the proved guard unit of document 01: its box, its trace ring, and the reader and
-//! writer of ScienceMode frames; and to the proved reader and writer of ScienceMode2 packets.
+//! writer of ScienceMode frames; and to the proved readers and writers of the packets of two later
+//! devices, the RehaStim2 (ScienceMode2) and the RehaMove3.
 //!
 //! [`Guard`], [`records()`] for its trace, [`read()`], [`write()`] and [`reply()`] for frames, and
-//! [`rehastim2`] for packets, are what a host program uses. [`calls`] has one function for each export
-//! of the library, for tests that drive them one by one. Clocks count tenths of a millisecond.
+//! [`rehastim2`] and [`rehamove3`] for packets, are what a host program uses. [`calls`] has one function
+//! for each export of the library, for tests that drive them one by one. Clocks count tenths of a
+//! millisecond.
 //!
 //! `cargo test` in this folder has the library proved and built first, and compares it with the
 //! codecs, the ring and the machine in `independent/`, which share nothing with it.
@@ -20,6 +22,7 @@ mod profile;
 pub mod raw;
 mod records;
 mod refusal;
+pub mod rehamove3;
 pub mod rehastim2;
 mod state;
 mod told;

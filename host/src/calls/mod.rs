@@ -9,6 +9,7 @@
 
 mod boxes;
 mod frames;
+pub mod rehamove3;
 pub mod rehastim2;
 mod ring;
 

@@ -32,7 +32,7 @@ macro_rules! layouts {
 }
 
 fn all() -> Vec<Layout> {
-    [of_frames_rings_and_boxes(), of_the_rehastim2()]
+    [of_frames_rings_and_boxes(), of_the_rehastim2(), of_the_rehamove3()]
         .into_iter()
         .flatten()
         .collect()
@@ -80,6 +80,26 @@ fn of_the_rehastim2() -> Vec<Layout> {
         ReadMode { used, answer, packet, command, size, result, mode }
         ReadList {
             used, answer, packet, command, size, factor, active, lf, inter, main, execution
+        }
+    }
+}
+
+fn of_the_rehamove3() -> Vec<Layout> {
+    use yarrowbell::raw::rehamove3::*;
+    layouts! {
+        Point { duration, code }
+        Pulse { number, points }
+        Weighed { charge, answer }
+        ReadPacket {
+            used, charge, command, size, answer, packet, voltage, result, electrode, execution,
+            channel, number, points
+        }
+        ReadEmpty { used, answer, packet, command, size }
+        ReadVoltage { used, answer, packet, command, size, voltage }
+        ReadResult { used, answer, packet, command, size, result }
+        ReadElectrode { used, answer, packet, command, size, result, electrode }
+        ReadConfig {
+            used, charge, command, size, answer, packet, execution, channel, number, points
         }
     }
 }
