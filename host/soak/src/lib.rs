@@ -4,7 +4,7 @@
 //! record every byte.
 //!
 //! `history` is that trial, `pairs` that of two boxes of which one has the tighter profile, and
-//! `packets` that of the RehaStim2's packets, read and written beside the independent codec. All are
+//! `packets` that of each device's packets, read and written beside the independent codec. All are
 //! fixed by their seed. `met` counts what they came across: a trial that met nothing shows nothing.
 //! `alike` puts the independent machine's numbers into the library's records. `sessions` has
 //! histories of bytes and ticks alone, for programs that play them.
@@ -29,6 +29,8 @@ mod profiles;
 mod random_bytes;
 #[path = "../../tests/shared/random_packets.rs"]
 mod random_packets;
+#[path = "../../tests/shared/random_pulses.rs"]
+mod random_pulses;
 mod three;
 
 pub use failure::Failure;

@@ -1,5 +1,7 @@
 //! What the trials came across.
 
+use crate::packets::rehamove3::RehaMove3;
+use crate::packets::rehastim2::RehaStim2;
 use crate::packets::Counts;
 use crate::three::Call;
 use std::collections::BTreeMap;
@@ -59,13 +61,14 @@ pub struct Met {
     pub pair_rejoinings: u64,
     pub pair_pulses: u64,
     pub pair_lax_pulses: u64,
-    pub(crate) packets: Counts,
+    pub(crate) rehastim2: Counts,
+    pub(crate) rehamove3: Counts,
 }
 
 impl Met {
     /// The calls of all trials.
     pub fn all_calls(&self) -> u64 {
-        self.calls + self.pair_calls + self.packets.calls
+        self.calls + self.pair_calls + self.rehastim2.calls + self.rehamove3.calls
     }
 
     pub fn made(&mut self, answer: u32) {
@@ -224,7 +227,7 @@ impl Met {
 
     /// The same of packets.
     pub fn of_packets(&self) -> Vec<(String, u64)> {
-        self.packets.lines()
+        [self.rehastim2.lines::<RehaStim2>(), self.rehamove3.lines::<RehaMove3>()].concat()
     }
 }
 

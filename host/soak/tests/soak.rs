@@ -35,10 +35,10 @@ fn profiles_that_are_nowhere_looser() {
 }
 
 #[test]
-fn packets_of_the_rehastim2() {
+fn packets_of_every_device() {
     let mut met = Met::default();
     let mut seeds = 4_000_000..;
-    while met.all_calls() < 400_000 {
+    while met.all_calls() < 800_000 {
         let seed = seeds.next().expect("there are seeds enough");
         packets::run(seed, &mut met).unwrap_or_else(|failure| panic!("{failure}"));
     }

@@ -2,9 +2,10 @@
 //! by a panic.
 
 use independent::rehastim2::{Command, Reading};
-use soak::packets::agree;
-pub use soak::packets::alike::command as ours;
-pub use soak::packets::ROOM;
+use soak::packets::rehastim2::agree;
+pub use soak::packets::rehastim2::alike::command as ours;
+pub use soak::packets::rehastim2::ROOM;
+use soak::packets::Written;
 
 /// Reads by every export and by the independent codec, into an output of `room` bytes, and hands back
 /// what all of them say.
@@ -14,7 +15,7 @@ pub fn read(bytes: &[u8], room: usize) -> Reading {
 
 /// Writes by the command's export and by the independent codec into an output of `room` bytes, and
 /// hands back the packet, or the answer of a refusal.
-pub fn write(packet: u8, command: Command, room: usize) -> agree::Written {
+pub fn write(packet: u8, command: Command, room: usize) -> Written {
     agree::write(packet, command, room).unwrap_or_else(|what| panic!("{what}"))
 }
 

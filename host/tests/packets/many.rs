@@ -7,6 +7,7 @@ use crate::seeded::seeded;
 use rand::rngs::SmallRng;
 use rand::Rng;
 use soak::packets::covered;
+use soak::packets::rehastim2::RehaStim2;
 
 /// How often each answer was given.
 fn counted(seeds: std::ops::Range<u64>, mut case: impl FnMut(&mut SmallRng) -> u8) -> [u32; 17] {
@@ -58,7 +59,9 @@ fn streams() {
 /// Any bytes behind a header with their right checksum and their right length.
 #[test]
 fn any_bytes_covered() {
-    let answers = counted(3_000_000..3_200_000, |rng| agree::read(&covered(rng), room(rng)).answer);
+    let answers = counted(3_000_000..3_200_000, |rng| {
+        agree::read(&covered::<RehaStim2>(rng), room(rng)).answer
+    });
     assert!([0, 1, 3, 4].iter().all(|&answer| answers[answer] > 2_000), "{answers:?}");
 }
 

@@ -7,7 +7,8 @@ use crate::seeded::seeded;
 use independent::plain::rehastim2 as plain;
 use independent::rehastim2::{self as independently, Command};
 use rand::Rng;
-use soak::packets::{alike, covered};
+use soak::packets::covered;
+use soak::packets::rehastim2::{alike, RehaStim2};
 use yarrowbell::calls::rehastim2 as calls;
 use yarrowbell::raw::rehastim2::ReadPacket;
 use yarrowbell::raw::Wrote;
@@ -20,7 +21,7 @@ pub fn check() {
         read(&whole, rng.gen_range(0..=LONGEST_DATA));
         packet_read(&whole);
         packet_read(&damaged(rng, whole));
-        packet_read(&covered(rng));
+        packet_read(&covered::<RehaStim2>(rng));
 
         let (number, command) = (byte(rng, 5), command(rng));
         let room = rng.gen_range(0..=LONGEST_WRITTEN);

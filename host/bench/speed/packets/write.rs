@@ -7,7 +7,7 @@ use crate::table::Row;
 use criterion::Bencher;
 use independent::plain::rehastim2 as plain;
 use independent::rehastim2::{self as independently, ChannelList, Command};
-use soak::packets::alike::channel_list;
+use soak::packets::rehastim2::alike::channel_list;
 use std::hint::black_box;
 use yarrowbell::calls::rehastim2 as calls;
 use yarrowbell::raw::Wrote;

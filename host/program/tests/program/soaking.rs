@@ -13,7 +13,12 @@ fn all_agree() {
 #[test]
 fn every_trial_is_run() {
     let out = run::printed("soak --calls 1");
-    for what in ["byte answered 0", "calls on pairs", "calls on packets"] {
+    for what in [
+        "byte answered 0",
+        "calls on pairs",
+        "RehaStim2: calls on packets",
+        "RehaMove3: calls on packets",
+    ] {
         let line = out.lines().find(|line| line.ends_with(&format!("  {what}")));
         let line = line.unwrap_or_else(|| panic!("{what}: {out}"));
         assert!(!line.trim_start().starts_with('0'), "{line}");

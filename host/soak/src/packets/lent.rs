@@ -4,10 +4,10 @@ use crate::failure::{same, same_bytes};
 use std::fmt::Debug;
 
 /// The longest output that is lent.
-pub const ROOM: usize = 64;
-/// What lies on either side of that output and must not be touched.
+pub const LONGEST: usize = 1_200;
+/// What lies on either side of an output and must not be touched.
 const GUARD: usize = 16;
-const WHOLE: usize = GUARD + ROOM + GUARD;
+const WHOLE: usize = GUARD + LONGEST + GUARD;
 
 /// An output of `room` bytes within a larger buffer, of which a call may change the first bytes, to
 /// these. `told` tells what was compared, of which call.
@@ -30,15 +30,19 @@ impl<F: Fn(&str) -> String> Lent<'_, F> {
         call: impl FnOnce(&mut [u8]) -> T,
     ) -> Result<(), String> {
         let turned = if other { 0xFF } else { 0 };
-        let mut found: [u8; WHOLE] = std::array::from_fn(|place| (place * 37 + 11) as u8 ^ turned);
-        let mut left = found;
+        let whole = GUARD + self.room + GUARD;
+        let (found, left) = (&mut [0; WHOLE][..whole], &mut [0; WHOLE][..whole]);
+        for (place, byte) in found.iter_mut().enumerate() {
+            *byte = (place * 37 + 11) as u8 ^ turned;
+        }
+        left.copy_from_slice(found);
         left[GUARD..][..self.first.len()].copy_from_slice(self.first);
         let report = call(&mut found[GUARD..][..self.room]);
         let told = |what: &str| (self.told)(&format!("{what} of {name}"));
         same(&report, &expected, || told("the report"))?;
         let [out, left_out] = [&found, &left].map(|whole| &whole[GUARD..][..self.room]);
         same_bytes(out, left_out, || told("the output"))?;
-        same_bytes(&found, &left, || told("the memory around the output"))
+        same_bytes(found, left, || told("the memory around the output"))
     }
 }
 

@@ -2,7 +2,8 @@
 //! independent codec. All of them report the same, and leave the same in an output and around it.
 
 use super::alike;
-use super::lent::Lent;
+use crate::packets::lent::Lent;
+use crate::packets::{known, Written};
 use independent::rehastim2::{self as independently, Command, Reading};
 use yarrowbell::calls::rehastim2 as calls;
 use yarrowbell::raw::rehastim2::{
@@ -10,7 +11,6 @@ use yarrowbell::raw::rehastim2::{
 };
 use yarrowbell::raw::Wrote;
 use yarrowbell::rehastim2::{self, NotWritten};
-use yarrowbell::Answer;
 
 /// Reads by every export, into an output of `room` bytes, and hands back what all of them say.
 pub fn read(bytes: &[u8], room: usize) -> Result<Reading, String> {
@@ -105,9 +105,6 @@ pub fn read(bytes: &[u8], room: usize) -> Result<Reading, String> {
     Ok(expected)
 }
 
-/// What all say of a written packet: its bytes, or the answer of a refusal.
-pub type Written = Result<Vec<u8>, u8>;
-
 /// Writes by the command's export, into an output of `room` bytes, and hands back what all of them say.
 pub fn write(packet: u8, command: Command, room: usize) -> Result<Written, String> {
     let expected = match independently::write(packet, command) {
@@ -134,8 +131,4 @@ pub fn write(packet: u8, command: Command, room: usize) -> Result<Written, Strin
         rehastim2::write(packet, &command, out).map_err(NotWritten::answer)
     })?;
     Ok(expected)
-}
-
-fn known(answer: u8) -> Answer {
-    Answer::from_number(answer).expect("the independent codec answers by document 01")
 }
