@@ -15,6 +15,8 @@ mod packets;
 mod random_bytes;
 #[path = "../../tests/shared/random_packets.rs"]
 mod random_packets;
+#[path = "../../tests/shared/random_pulses.rs"]
+mod random_pulses;
 mod ring;
 #[path = "../../tests/shared/seeded.rs"]
 mod seeded;

@@ -12,7 +12,7 @@ const BOX: &[&str] = &["in place", "by value", "plain"];
 const BOTH: &[&str] = &["library", "plain"];
 const CODECS: &[&str] = &["library", "plain", "independent"];
 
-pub const GROUPS: [Group; 11] = [
+pub const GROUPS: [Group; 13] = [
     Group {
         name: "tick",
         sides: BOX,
@@ -61,7 +61,7 @@ pub const GROUPS: [Group; 11] = [
         calls: &["Init", "Update of 1 channel", "Update of 8 channels", "Stop", "Single"],
     },
     Group {
-        name: "packet read",
+        name: "packet read, RehaStim2",
         sides: CODECS,
         calls: &[
             "Watchdog",
@@ -83,7 +83,7 @@ pub const GROUPS: [Group; 11] = [
         ],
     },
     Group {
-        name: "packet write",
+        name: "packet write, RehaStim2",
         sides: CODECS,
         calls: &[
             "Watchdog",
@@ -92,6 +92,48 @@ pub const GROUPS: [Group; 11] = [
             "InitChannelListMode",
             "InitChannelListMode, 5 bytes stuffed",
             "InitChannelListModeAck",
+        ],
+    },
+    Group {
+        name: "packet read, RehaMove3",
+        sides: CODECS,
+        calls: &[
+            "Ll_init",
+            "Ll_init_ack",
+            "Ll_channel_config_ack",
+            "Ll_stop",
+            "Ll_stop_ack",
+            "Ll_channel_config, 1 point",
+            "Ll_channel_config, 3 points",
+            "Ll_channel_config, 16 points",
+            "Ll_channel_config, 16 points, 48 bytes stuffed",
+            "other, no data",
+            "other, 60 bytes of data",
+            "other, 300 bytes of data",
+            "other, 1188 bytes of data",
+            "other, 594 bytes of data, all stuffed",
+            "other, 1188 bytes of data, behind 1000 of garbage",
+            "wrong checksum, 60 bytes of data",
+            "wrong checksum, 1188 bytes of data",
+            "wrong checksum, 10000 bytes of data",
+            "no packet in 1000 bytes",
+            "no packet in 10000 bytes",
+            "no packet in 10000 bytes, all starts",
+        ],
+    },
+    Group {
+        name: "packet write, RehaMove3",
+        sides: CODECS,
+        calls: &[
+            "Ll_init",
+            "Ll_init_ack",
+            "Ll_channel_config_ack",
+            "Ll_stop",
+            "Ll_stop_ack",
+            "Ll_channel_config, 1 point",
+            "Ll_channel_config, 3 points",
+            "Ll_channel_config, 16 points",
+            "Ll_channel_config, 16 points, 48 bytes stuffed",
         ],
     },
     Group {

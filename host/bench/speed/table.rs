@@ -6,10 +6,11 @@ const LEGEND: &str = "
 Nanoseconds for one call: the least of three medians, the sides measured in turn. Ratio: plain /
 library, so that at 1.00 or more the library is no slower. Times real time: how many such calls fit
 in the time that one has, 100,000 ns for a tick or a readout, 86,806 ns for a byte or each byte of a
-frame, 23,872 ns for each byte of a packet or of what stands where one is looked for: at 460,800 baud
-a byte has 11 bits, with its start, its parity and its stop. Independent: a codec by a grammar, near to
-the paper and not made to be fast. Mixed: the three kinds of record in a random order; mostly pulses:
-each 16th record is an answer.";
+frame, and for each byte of a packet or of what stands where one is looked for the time of 11 bits:
+23,872 ns for the RehaStim2, at 460,800 baud with a start, a parity and a stop, and 3,667 ns for the
+RehaMove3, at 3,000,000 baud with a start and two stops. Independent: a codec by a grammar, near to the
+paper and not made to be fast. Mixed: the three kinds of record in a random order; mostly pulses: each
+16th record is an answer.";
 
 /// The nanoseconds from one tick to the next: there are 10,000 a second.
 pub const TICK: f64 = 1e9 / 10_000.0;
@@ -17,9 +18,10 @@ pub const TICK: f64 = 1e9 / 10_000.0;
 /// The nanoseconds from one byte to the next: a line of 115,200 baud has 11,520 a second.
 pub const BYTE: f64 = 1e9 / 11_520.0;
 
-/// The nanoseconds from one byte of a packet to the next: 11 bits, 8 of data with a start, an even
-/// parity and a stop, at 460,800 baud (source 000, table 4).
-pub const PACKET_BYTE: f64 = 11.0 * 1e9 / 460_800.0;
+/// The nanoseconds from one byte to the next on a line of this rate, if a byte has 11 bits.
+pub const fn byte_of_11_bits(baud: u32) -> f64 {
+    11.0 * 1e9 / baud as f64
+}
 
 pub struct Table {
     pub title: &'static str,

@@ -1,84 +1,71 @@
 //! Packets, read and written on every side.
 
 use super::same::same_three;
-use crate::random_bytes::{byte, damaged};
-use crate::random_packets::{command, packet};
+use crate::packets::{Device, RehaMove3, RehaStim2};
+use crate::random_bytes::damaged;
 use crate::seeded::seeded;
-use independent::plain::rehastim2 as plain;
-use independent::rehastim2::{self as independently, Command};
 use rand::Rng;
-use soak::packets::covered;
-use soak::packets::rehastim2::{alike, RehaStim2};
-use yarrowbell::calls::rehastim2 as calls;
-use yarrowbell::raw::rehastim2::ReadPacket;
 use yarrowbell::raw::Wrote;
-use yarrowbell::rehastim2::{LONGEST_DATA, LONGEST_WRITTEN};
+
+const CASES: u64 = 10_000;
 
 pub fn check() {
-    const CASES: u64 = 10_000;
-    seeded(0..CASES, |rng| {
-        let whole = packet(rng);
-        read(&whole, rng.gen_range(0..=LONGEST_DATA));
-        packet_read(&whole);
-        packet_read(&damaged(rng, whole));
-        packet_read(&covered::<RehaStim2>(rng));
-
-        let (number, command) = (byte(rng, 5), command(rng));
-        let room = rng.gen_range(0..=LONGEST_WRITTEN);
-        for room in [room, LONGEST_WRITTEN] {
-            write(number, command, room, |out| {
-                alike::write(number, command, out).expect("a command that is carried")
-            });
-        }
-    });
+    of_device::<RehaStim2>();
+    of_device::<RehaMove3>();
     println!(
-        "library, plain and independent codec agree on {CASES} random packets, \
-         read whole, damaged and around any bytes, and written"
+        "library, plain and independent codec agree on {CASES} random packets of the RehaStim2 \
+         and {CASES} of the RehaMove3, read whole, damaged and around any bytes, and written"
     );
 }
 
+fn of_device<D: Device>() {
+    seeded(0..CASES, |rng| {
+        let whole = D::packet(rng);
+        read::<D>(&whole, rng.gen_range(0..=D::LONGEST_DATA));
+        packet_read::<D>(&whole);
+        packet_read::<D>(&damaged(rng, whole));
+        packet_read::<D>(&D::covered(rng));
+
+        let (number, command) = D::command(rng);
+        let room = rng.gen_range(0..=D::LONGEST_WRITTEN);
+        for room in [room, D::LONGEST_WRITTEN] {
+            write::<D>(number, command, room, |out| D::write(number, command, out));
+        }
+    });
+}
+
 /// What the reader answers to these bytes. Stops at the first difference.
-pub fn packet_read(bytes: &[u8]) -> u8 {
-    read(bytes, LONGEST_DATA)
+pub fn packet_read<D: Device>(bytes: &[u8]) -> u8 {
+    read::<D>(bytes, D::LONGEST_DATA)
 }
 
 /// The packet that the library writes by this call. Stops at the first difference.
-pub fn packet_written(
+pub fn packet_written<D: Device>(
     number: u8,
-    command: Command,
+    command: D::Command,
     library: impl Fn(&mut [u8]) -> Wrote,
 ) -> Vec<u8> {
-    write(number, command, LONGEST_WRITTEN, library)
+    write::<D>(number, command, D::LONGEST_WRITTEN, library)
 }
 
-fn read(bytes: &[u8], room: usize) -> u8 {
+fn read<D: Device>(bytes: &[u8], room: usize) -> u8 {
     let mut outs = outputs(room);
     let [first, second, third] = &mut outs;
-    let library = calls::read(bytes, first);
-
-    let plain::Read { used, answer, packet, size, command } = plain::read(bytes, second);
-    let plain = report(ReadPacket { used, answer, packet, size, ..ReadPacket::default() }, command);
-
-    let independently::Reading { answer, used, packet, command, data } =
-        independently::read(bytes, room);
+    let library = D::read(bytes, first);
+    let plain = D::of_plain(D::plain_read(bytes, second));
+    let (independent, data) = D::of_independent(D::independent_read(bytes, room));
     third[..data.len()].copy_from_slice(&data);
-    let size = data.len() as u8;
-    let independent =
-        report(ReadPacket { used, answer, packet, size, ..ReadPacket::default() }, command);
 
     let told = (bytes, room);
-    same_three("a reading of a packet", &told, &[library, plain, independent]);
+    let reads = [library, plain, independent];
+    same_three("a reading of a packet", &told, &reads);
     same_three("data of a packet", &told, &outs);
-    answer
+    D::answer(&reads[0])
 }
 
-fn report(all: ReadPacket, command: Option<Command>) -> ReadPacket {
-    command.map_or(all, |command| alike::with_command(all, command))
-}
-
-fn write(
+fn write<D: Device>(
     number: u8,
-    command: Command,
+    command: D::Command,
     room: usize,
     library: impl Fn(&mut [u8]) -> Wrote,
 ) -> Vec<u8> {
@@ -87,10 +74,10 @@ fn write(
     let Wrote { answer, used } = library(first);
     let library = (answer, used.into());
 
-    let wrote = plain::write(number, command, second);
+    let wrote = D::plain_write(number, command, second);
     let plain = (wrote.answer, wrote.used);
 
-    let independent = match independently::write(number, command) {
+    let independent = match D::independent_write(number, command) {
         None => (4, 0),
         Some(bytes) if bytes.len() > room => (16, 0),
         Some(bytes) => {
