@@ -2,6 +2,7 @@
 //! independent codec and against what source 000 and document 02 say outright.
 
 mod agree;
+mod device;
 #[path = "../shared/random_bytes.rs"]
 mod random_bytes;
 #[path = "../shared/random_packets.rs"]
@@ -9,13 +10,19 @@ mod random_packets;
 #[path = "../shared/seeded.rs"]
 mod seeded;
 
+// What is tried on the packets of every device.
+#[path = "../shared/capture.rs"]
 mod capture;
-mod checksums;
+#[path = "../shared/damage.rs"]
 mod damage;
-mod data;
+#[path = "../shared/garbage.rs"]
 mod garbage;
-mod kinds;
+#[path = "../shared/many.rs"]
 mod many;
+
+mod checksums;
+mod data;
+mod kinds;
 mod not_done;
 mod outputs;
 mod papers;

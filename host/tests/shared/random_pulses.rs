@@ -36,7 +36,7 @@ pub fn command(rng: &mut SmallRng) -> Command {
 }
 
 /// A pulse, one time in sixteen of a wrong number of points or with one behind its last.
-fn pulse(rng: &mut SmallRng) -> Pulse {
+pub fn pulse(rng: &mut SmallRng) -> Pulse {
     let number = rng.gen_range(1..=16);
     let mut points = if rng.gen() {
         balanced(rng, number)

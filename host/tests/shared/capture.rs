@@ -1,12 +1,10 @@
 //! All packets of a capture.
 
 use crate::agree::ours;
+use crate::device::{compose, independently, packet, packets, Command, NotRead, LONGEST_DATA};
 use crate::random_bytes::{bytes, damaged};
-use crate::random_packets::packet;
 use crate::seeded::seeded;
-use independent::rehastim2::{compose, read};
 use rand::Rng;
-use yarrowbell::rehastim2::{packets, Command, NotRead};
 
 /// What the independent codec finds, one behind the other: the places, and the answers with them.
 #[test]
@@ -20,7 +18,7 @@ fn random_captures() {
         }
         let mut at = 0;
         for found in packets(&capture) {
-            let reading = read(&capture[at..], 60);
+            let reading = independently(&capture[at..], LONGEST_DATA);
             let used = if reading.answer == 1 { capture.len() - at } else { reading.used };
             assert_eq!(found.place, at..at + used);
             assert_eq!(found.data(), reading.data);

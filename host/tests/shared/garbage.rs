@@ -1,19 +1,15 @@
 //! What stands before and behind a packet.
 
 use crate::agree::{self, refused};
+use crate::device::{packet, Reading, LONGEST_DATA, WHOLE};
 use crate::random_bytes::{bytes, damaged};
-use crate::random_packets::packet;
 use crate::seeded::seeded;
-use independent::rehastim2::Reading;
-
-/// A Watchdog, the first five bytes of which are half a packet.
-const WATCHDOG: [u8; 8] = [0xF0, 0x81, 0x49, 0x81, 0x57, 0, 4, 0x0F];
 
 /// "After any garbage that does not end in 81 the next whole packet is read as if it stood alone."
 fn passed_over(garbage: &[u8], packet: &[u8]) {
-    let alone = agree::read(packet, 60);
+    let alone = agree::read(packet, LONGEST_DATA);
     let used = if alone.used == 0 { 0 } else { garbage.len() + alone.used };
-    let reading = agree::read(&[garbage, packet].concat(), 60);
+    let reading = agree::read(&[garbage, packet].concat(), LONGEST_DATA);
     assert_eq!(reading, Reading { used, ..alone }, "{garbage:02X?} {packet:02X?}");
 }
 
@@ -35,11 +31,11 @@ fn garbage_of_every_kind() {
             &[0x81, 0xF0, 0x0F],
             &[0xF0, 0x81, 0x0F],
             &[0xF0, 0x81, 0xF0, 0xF0],
-            &WATCHDOG[1..],
-            &WATCHDOG[..1],
-            &WATCHDOG[..3],
-            &WATCHDOG[..5],
-            &WATCHDOG[..7],
+            &WHOLE[1..],
+            &WHOLE[..1],
+            &WHOLE[..3],
+            &WHOLE[..5],
+            &WHOLE[..7],
             &[0x33; 100],
         ] {
             passed_over(garbage, &packet);
@@ -56,7 +52,7 @@ fn any_two_bytes() {
             if garbage == [0xF0, 0x0F] {
                 continue;
             }
-            passed_over(&garbage, &WATCHDOG);
+            passed_over(&garbage, &WHOLE);
         }
     }
 }
@@ -70,9 +66,9 @@ fn marks_at_every_place() {
             let mut garbage = vec![0x33; length];
             garbage[place] = mark;
             if garbage.ends_with(&[0x81]) {
-                agree::read(&[&garbage[..], &WATCHDOG].concat(), 60);
+                agree::read(&[&garbage[..], &WHOLE].concat(), LONGEST_DATA);
             } else {
-                passed_over(&garbage, &WATCHDOG);
+                passed_over(&garbage, &WHOLE);
             }
         }
     }
@@ -85,13 +81,13 @@ fn random_garbage() {
     seeded(2_000..102_000, |rng| {
         let garbage = bytes(rng, 30);
         let packet = packet(rng);
-        if agree::read(&garbage, 60) != refused(1, 0) {
+        if agree::read(&garbage, LONGEST_DATA) != refused(1, 0) {
             // What is finished in it comes first, and the packet changes nothing.
-            let alone = agree::read(&garbage, 60);
-            assert_eq!(agree::read(&[garbage, packet].concat(), 60), alone);
+            let alone = agree::read(&garbage, LONGEST_DATA);
+            assert_eq!(agree::read(&[garbage, packet].concat(), LONGEST_DATA), alone);
             before += 1;
         } else if garbage.last() == Some(&0x81) {
-            agree::read(&[garbage, packet].concat(), 60);
+            agree::read(&[garbage, packet].concat(), LONGEST_DATA);
             hidden += 1;
         } else {
             passed_over(&garbage, &packet);
@@ -105,12 +101,12 @@ fn random_garbage() {
 #[test]
 fn garbage_that_ends_in_81() {
     for garbage in [&[0x81][..], &[0x00, 0x81], &[0x81, 0x81], &[0x0F, 0x81], &[0x81, 0xF0, 0x81]] {
-        let hidden = [garbage, &WATCHDOG].concat();
+        let hidden = [garbage, &WHOLE].concat();
         assert_eq!(agree::read(&hidden, 0), refused(1, 0), "{garbage:02X?}");
-        passed_over(&hidden, &WATCHDOG);
+        passed_over(&hidden, &WHOLE);
     }
-    for open in [&WATCHDOG[..2], &WATCHDOG[..4]] {
-        let bytes = [open, &WATCHDOG].concat();
+    for open in [&WHOLE[..2], &WHOLE[..4]] {
+        let bytes = [open, &WHOLE].concat();
         assert_eq!(agree::read(&bytes, 0), refused(3, bytes.len()), "{open:02X?}");
     }
 }
@@ -121,12 +117,12 @@ fn bytes_behind_the_stop() {
     seeded(200_000..230_000, |rng| {
         let packet = packet(rng);
         for mut bytes in [packet.clone(), damaged(rng, packet)] {
-            let alone = agree::read(&bytes, 60);
+            let alone = agree::read(&bytes, LONGEST_DATA);
             if alone.answer == 1 {
                 continue;
             }
             bytes.extend(crate::random_bytes::bytes(rng, 20));
-            assert_eq!(agree::read(&bytes, 60), alone);
+            assert_eq!(agree::read(&bytes, LONGEST_DATA), alone);
         }
     });
 }
@@ -137,9 +133,12 @@ fn two_in_a_row() {
     seeded(300_000..330_000, |rng| {
         let (first, second) = (packet(rng), packet(rng));
         let both = [&first[..], &second].concat();
-        let reading = agree::read(&both, 60);
-        assert_eq!(reading, agree::read(&first, 60));
+        let reading = agree::read(&both, LONGEST_DATA);
+        assert_eq!(reading, agree::read(&first, LONGEST_DATA));
         assert_eq!(reading.used, first.len());
-        assert_eq!(agree::read(&both[reading.used..], 60), agree::read(&second, 60));
+        assert_eq!(
+            agree::read(&both[reading.used..], LONGEST_DATA),
+            agree::read(&second, LONGEST_DATA)
+        );
     });
 }

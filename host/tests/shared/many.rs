@@ -1,13 +1,12 @@
 //! Millions of packets, whole and damaged, and of bytes that are none.
 
 use crate::agree;
-use crate::random_bytes::{byte, bytes, damaged};
-use crate::random_packets::{command, packet};
+use crate::device::{command, number, packet, Device, LONGEST_DATA, LONGEST_WRITTEN};
+use crate::random_bytes::{bytes, damaged};
 use crate::seeded::seeded;
 use rand::rngs::SmallRng;
 use rand::Rng;
 use soak::packets::covered;
-use soak::packets::rehastim2::RehaStim2;
 
 /// How often each answer was given.
 fn counted(seeds: std::ops::Range<u64>, mut case: impl FnMut(&mut SmallRng) -> u8) -> [u32; 17] {
@@ -19,9 +18,9 @@ fn counted(seeds: std::ops::Range<u64>, mut case: impl FnMut(&mut SmallRng) -> u
 /// Any room for data, most often enough.
 fn room(rng: &mut SmallRng) -> usize {
     if rng.gen_ratio(1, 4) {
-        rng.gen_range(0..=60)
+        rng.gen_range(0..=LONGEST_DATA)
     } else {
-        60
+        LONGEST_DATA
     }
 }
 
@@ -59,23 +58,24 @@ fn streams() {
 /// Any bytes behind a header with their right checksum and their right length.
 #[test]
 fn any_bytes_covered() {
-    let answers = counted(3_000_000..3_200_000, |rng| {
-        agree::read(&covered::<RehaStim2>(rng), room(rng)).answer
-    });
+    let answers =
+        counted(3_000_000..3_200_000, |rng| agree::read(&covered::<Device>(rng), room(rng)).answer);
     assert!([0, 1, 3, 4].iter().all(|&answer| answers[answer] > 2_000), "{answers:?}");
 }
 
 #[test]
 fn garbage() {
-    let answers = counted(4_000_000..4_200_000, |rng| agree::read(&bytes(rng, 40), 60).answer);
+    let answers =
+        counted(4_000_000..4_200_000, |rng| agree::read(&bytes(rng, 40), LONGEST_DATA).answer);
     assert!(answers[1] > 50_000 && answers[3] > 5_000, "{answers:?}");
 }
 
 #[test]
 fn written() {
     let answers = counted(5_000_000..5_500_000, |rng| {
-        let (packet, command) = (byte(rng, 3), command(rng));
-        agree::write(packet, command, rng.gen_range(0..=30)).err().unwrap_or(0)
+        let (packet, command) = (number(rng), command(rng));
+        let room = rng.gen_range(0..=LONGEST_WRITTEN + 10);
+        agree::write(packet, command, room).err().unwrap_or(0)
     });
     assert!([0, 4, 16].iter().all(|&answer| answers[answer] > 30_000), "{answers:?}");
 }
