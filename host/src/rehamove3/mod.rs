@@ -78,7 +78,8 @@ pub struct Packet {
 /// assert_eq!((packet.number, config.execution, config.channel), (1, true, 0));
 /// assert_eq!(config.pulse.points()[0], Point { duration: 250, current: 40 });
 /// assert_eq!((config.pulse.points().len(), packet.charge), (3, 0));
-/// assert_eq!(data[..packet.size], [0x82, 15, 165, 80, 0, 6, 68, 176, 0, 15, 164, 16, 0]);
+/// assert_eq!(data[..5], [0x82, 0x0F, 0xA5, 0x50, 0x00]);
+/// assert_eq!(packet.size, 13);
 ///
 /// bytes[25] = 1;
 /// assert_eq!(read(&bytes, &mut data), Err(NotRead::WrongChecksum { used: 27 }));
@@ -108,7 +109,8 @@ pub fn read(bytes: &[u8], data: &mut [u8]) -> Result<Packet, NotRead> {
 /// let mut out = [0; LONGEST_WRITTEN];
 /// let init = Command::LlInit { voltage: HighVoltage::STANDARD };
 /// let used = write(0, &init, &mut out)?;
-/// assert_eq!(out[..used], [240, 129, 85, 129, 88, 129, 85, 129, 85, 0, 0, 0, 15]);
+/// let header = [0xF0, 0x81, 0x55, 0x81, 0x58, 0x81, 0x55, 0x81, 0x55];
+/// assert_eq!(out[..used], [&header[..], &[0x00, 0x00, 0x00, 0x0F]].concat());
 /// assert_eq!(write(64, &init, &mut out), Err(NotWritten::NotGood));
 /// assert_eq!(write(1, &Command::Other { number: 30 }, &mut out), Err(NotWritten::NotGood));
 /// # Ok::<(), NotWritten>(())

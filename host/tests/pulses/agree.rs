@@ -25,7 +25,7 @@ pub fn charge(pulse: Pulse) -> Option<i32> {
     agree::charge(pulse).unwrap_or_else(|what| panic!("{what}"))
 }
 
-/// The command as a host program has it, which has none that is not good in other ways than by a value.
+/// A command that was read, as a host program has it.
 pub fn ours(command: &Command) -> rehamove3::Command {
     alike::command(command).unwrap_or_else(|| panic!("{command:?}"))
 }

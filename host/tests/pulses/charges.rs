@@ -5,14 +5,12 @@ use crate::device::LONGEST_DATA;
 use crate::made::{config, pulse};
 use crate::random_pulses;
 use crate::seeded::seeded;
-use independent::rehamove3::{compose, Pulse};
+use independent::rehamove3::{compose, ChannelConfig, Command, Point, Pulse};
 use rand::Rng;
 
 /// "A signed sum in half milliamp microseconds", in numbers that are wide enough for any.
 fn summed(pulse: &Pulse) -> i64 {
-    let charge = |point: &independent::rehamove3::Point| {
-        i64::from(point.duration) * (i64::from(point.code) - 300)
-    };
+    let charge = |point: &Point| i64::from(point.duration) * (i64::from(point.code) - 300);
     pulse.used().iter().map(charge).sum()
 }
 
@@ -81,6 +79,19 @@ fn one_off() {
     }
     // A pause may last as long as it will.
     assert_eq!(off, 7 * 4 - 2);
+}
+
+/// "Even where nothing is executed", on every channel.
+#[test]
+fn whether_or_not_it_is_executed() {
+    for (execution, channel) in [0, 1].into_iter().flat_map(|e| (0..4).map(move |c| (e, c))) {
+        for (last, good) in [(260, true), (261, false)] {
+            let pulse = pulse(&[(250, 340), (250, last)]);
+            let config = ChannelConfig { execution, channel, pulse };
+            let written = agree::write(5, Command::LlChannelConfig(config), ROOM);
+            assert_eq!(written.is_ok(), good, "{config:?}");
+        }
+    }
 }
 
 /// In whichever order its points flow.
