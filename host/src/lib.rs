@@ -17,7 +17,7 @@ mod cause;
 mod frames;
 mod guard;
 mod not_done;
-mod packets;
+pub mod packets;
 mod profile;
 pub mod raw;
 mod records;

@@ -17,6 +17,7 @@ mod frame;
 mod hex;
 mod input;
 mod json;
+mod layout;
 mod lesson;
 mod number;
 mod order;

@@ -62,6 +62,14 @@ pub fn whole<N: FromStr>(word: &str) -> Option<N> {
     word.parse().ok().filter(|_| word.bytes().all(|byte| byte.is_ascii_digit()))
 }
 
+/// Millionths of a number without a sign, which has at most six digits behind its point.
+pub fn millionths(word: &str) -> Option<u64> {
+    let (ones, part) = word.split_once('.').unwrap_or((word, "0"));
+    let part: u64 =
+        whole::<u64>(part).filter(|_| part.len() <= 6)? * 10_u64.pow(6 - part.len() as u32);
+    whole::<u64>(ones)?.checked_mul(1_000_000)?.checked_add(part)
+}
+
 fn outside(range: RangeInclusive<u64>) -> NotNumber {
     NotNumber::Outside { least: *range.start(), most: *range.end() }
 }

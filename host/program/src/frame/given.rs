@@ -2,6 +2,7 @@
 
 use super::layout::{self, Place};
 use crate::field::Field;
+use crate::layout::length;
 use yarrowbell::Command;
 
 pub struct Given<'a> {
@@ -27,7 +28,7 @@ impl<'a> Given<'a> {
     pub fn new(bytes: &'a [u8], count: usize) -> Given<'a> {
         let first = bytes[0];
         let places = if first < 0x80 { Vec::new() } else { layout::places(first, count) };
-        let later = bytes[1..].iter().take(layout::length(&places).saturating_sub(1));
+        let later = bytes[1..].iter().take(length(&places).saturating_sub(1));
         let own = 1 + later.take_while(|byte| **byte < 0x80).count();
         Given { bytes, places, own }
     }
@@ -38,7 +39,7 @@ impl<'a> Given<'a> {
 
     /// How many bytes the frame has.
     pub fn length(&self) -> usize {
-        layout::length(&self.places)
+        length(&self.places)
     }
 
     pub fn is_whole(&self) -> bool {
@@ -119,7 +120,7 @@ mod tests {
     /// A frame of random bits, of which only the check is right.
     fn frame(rng: &mut SmallRng, count: usize) -> Vec<u8> {
         let first = 0x80 | rng.gen_range(0..=0x7F);
-        let length = layout::length(&layout::places(first, count));
+        let length = length(&layout::places(first, count));
         let mut bytes: Vec<u8> = (1..length).map(|_| rng.gen_range(0..=0x7F)).collect();
         bytes.insert(0, first);
         let given = Given::new(&bytes, count);

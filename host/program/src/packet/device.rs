@@ -7,4 +7,6 @@ use clap::ValueEnum;
 pub enum Device {
     /// ScienceMode2, source 000
     Rehastim2,
+    /// Sources 001 and 002
+    Rehamove3,
 }

@@ -1,9 +1,31 @@
 //! `yarrowbell packet`
 
+mod all;
+mod always;
+mod argument;
+mod checksum;
+mod content;
 mod device;
+mod end;
+mod field;
+mod fields;
+mod first;
+mod framing;
+mod generation;
+mod given;
+mod json;
+mod keyed;
+mod named;
+mod names;
 mod read;
+mod reading;
+mod reason;
+mod rehamove3;
 mod rehastim2;
+mod rows;
+mod stuffing;
 mod write;
+mod written;
 
 use crate::failure::{Failure, Out};
 use clap::{Args, Subcommand};

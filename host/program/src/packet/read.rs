@@ -1,7 +1,11 @@
 //! `yarrowbell packet read`
 
 use super::device::Device;
-use super::rehastim2;
+use super::generation::Generation;
+use super::reading::Reading;
+use super::rehamove3::Rehamove3;
+use super::rehastim2::Rehastim2;
+use super::{all, first};
 use crate::bytes::Bytes;
 use crate::failure::{Failure, Out};
 use clap::Args;
@@ -57,10 +61,18 @@ impl Read {
         if given.all.is_empty() && !self.all {
             return Err(given.fault(None, "no bytes").into());
         }
-        let good = match (self.device, self.all) {
-            (Device::Rehastim2, false) => rehastim2::read_first(&given.all, self.json, out)?,
-            (Device::Rehastim2, true) => rehastim2::read_all(&given.all, self.json, out)?,
+        let good = match self.device {
+            Device::Rehastim2 => self.read::<Rehastim2>(&given.all, out)?,
+            Device::Rehamove3 => self.read::<Rehamove3>(&given.all, out)?,
         };
         Ok(if self.check && !good { ExitCode::FAILURE } else { ExitCode::SUCCESS })
+    }
+
+    /// Prints the first packet, or all of them, and says whether every answer is 0.
+    fn read<G: Generation>(&self, bytes: &[u8], out: Out) -> Result<bool, Failure> {
+        if self.all {
+            return all::print::<G>(bytes, self.json, out);
+        }
+        first::print(&Reading::<G>::first(bytes), self.json, out)
     }
 }

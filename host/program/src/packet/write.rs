@@ -1,6 +1,6 @@
 //! `yarrowbell packet write`
 
-use super::rehastim2;
+use super::{rehamove3, rehastim2};
 use crate::failure::{Failure, Out};
 use clap::{Args, Subcommand};
 
@@ -18,12 +18,14 @@ pub struct Write {
 #[derive(Subcommand)]
 enum Of {
     Rehastim2(rehastim2::Write),
+    Rehamove3(rehamove3::Write),
 }
 
 impl Write {
     pub fn run(self, out: Out) -> Result<(), Failure> {
         match self.device {
             Of::Rehastim2(write) => write.run(out),
+            Of::Rehamove3(write) => write.run(out),
         }
     }
 }

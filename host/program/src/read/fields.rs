@@ -1,7 +1,7 @@
 //! The fields of a frame in lines, those of each listed channel together.
 
-use super::rows;
 use crate::frame::given::Value;
+use crate::layout::numbered;
 
 pub fn of(values: &[Value]) -> Vec<String> {
     let mut lines = Vec::new();
@@ -22,7 +22,7 @@ pub fn of(values: &[Value]) -> Vec<String> {
 pub fn told(value: &Value) -> String {
     let Value { field, number, missing, .. } = value;
     if *missing != 0 {
-        return format!("    -: {} missing", rows::numbered(missing - 1, 0));
+        return format!("    -: {} missing", numbered(missing - 1, 0));
     }
     let meaning = field.meaning(*number);
     let fault =

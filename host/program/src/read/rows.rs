@@ -2,7 +2,8 @@
 
 use crate::field::Field;
 use crate::frame::given::Given;
-use crate::frame::layout::{Place, Span};
+use crate::frame::layout::Place;
+use crate::layout::{numbered, Span};
 
 /// A row for each byte of the frame, and below it one for each field that has bits in it. A low
 /// first byte stands alone; a high byte that cuts the frame stands last.
@@ -47,13 +48,4 @@ fn of_span(byte: u8, place: &Place, span: &Span) -> String {
         entry => format!("entry {entry}: "),
     };
     format!("{:11}{bits}  {entry}{what}", "")
-}
-
-/// Bits of a field by their numbers in it.
-pub fn numbered(highest: usize, lowest: usize) -> String {
-    match highest - lowest {
-        0 => format!("bit {lowest}"),
-        1 => format!("bits {highest},{lowest}"),
-        _ => format!("bits {highest} to {lowest}"),
-    }
 }

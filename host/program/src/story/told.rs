@@ -2,7 +2,8 @@
 
 use super::table::{Cell, Table};
 use crate::course::{Decided, Event, Pulse, What};
-use crate::frame::layout;
+use crate::frame::layout::places;
+use crate::layout::length;
 use crate::play::{Done, Step};
 use crate::wrapping::together;
 use crate::{hex, words};
@@ -91,7 +92,7 @@ fn part(bytes: &[u8]) -> String {
         ("Update", 1) => format!("{spelt} ({name}, 1 byte)"),
         ("Update", _) => format!("{spelt} ({name}, {there} bytes)"),
         _ => {
-            let length = layout::length(&layout::places(bytes[0], 0));
+            let length = length(&places(bytes[0], 0));
             format!("{spelt} ({name}, {there} of {length} bytes)")
         }
     }

@@ -132,7 +132,7 @@ fn bytes_that_are_none() {
 fn the_device() {
     let ran = run::line("packet read rehamove4 F0");
     assert_eq!((ran.status, ran.out.as_str()), (2, ""));
-    assert!(ran.err.contains("[possible values: rehastim2]"), "{}", ran.err);
+    assert!(ran.err.contains("[possible values: rehastim2, rehamove3]"), "{}", ran.err);
     let ran = run::line("packet write rehamove4 watchdog");
     assert_eq!((ran.status, ran.out.as_str()), (2, ""));
 }

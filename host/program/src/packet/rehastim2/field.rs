@@ -1,6 +1,7 @@
 //! The fields of packets: their names, their good values, and what their numbers mean.
 
-use super::names;
+use super::names::COMMANDS;
+use crate::packet::{field, names};
 use crate::words;
 use std::ops::RangeInclusive;
 use yarrowbell::rehastim2::{self, ErrorCode};
@@ -24,8 +25,8 @@ pub enum Field {
 
 use Field::*;
 
-impl Field {
-    pub fn name(self) -> &'static str {
+impl field::Field for Field {
+    fn name(self) -> &'static str {
         match self {
             PacketNumber => "Packet number",
             Command => "Command",
@@ -42,42 +43,56 @@ impl Field {
         }
     }
 
-    /// As scripts have it.
-    pub fn key(self) -> String {
-        self.name().to_lowercase().replace(' ', "_")
-    }
-
-    /// How many bytes it has before stuffing.
-    pub fn size(self) -> usize {
-        if self == MainStimulationInterval {
-            2
-        } else {
-            1
+    /// Results are signed.
+    fn number(self, bits: u16) -> i32 {
+        match self {
+            Result => i32::from(bits as i8),
+            _ => bits.into(),
         }
     }
 
-    /// The number that its bytes give, MSB first. Results are signed.
-    pub fn number(self, bytes: &[u8]) -> i32 {
-        match (self, bytes) {
-            (Result, [byte]) => i32::from(*byte as i8),
-            _ => bytes.iter().fold(0, |number, byte| number << 8 | i32::from(*byte)),
+    fn judged(self, value: i32) -> (bool, &'static str) {
+        let (good, rule) = self.range();
+        (good.contains(&value), rule)
+    }
+
+    fn word(self, value: i32) -> Option<&'static str> {
+        match self {
+            Result => ErrorCode(value.try_into().ok()?).words(),
+            StimulationMode => rehastim2::StimulationMode(value.try_into().ok()?).words(),
+            ChannelExecution => {
+                ["Fixed interval", "As fast as possible"].get(usize::try_from(value).ok()?).copied()
+            }
+            Command | EchoCommandByte => names::of(&COMMANDS, value.try_into().ok()?),
+            _ => None,
         }
     }
 
-    /// Source 000's rule, if the value is not good. The library decides by the same rules; this finds
-    /// the value at fault.
-    pub fn broken(self, value: i32) -> Option<&'static str> {
-        let (good, rule) = self.judged();
-        (!good.contains(&value)).then_some(rule)
+    fn meaning(self, value: i32) -> String {
+        let words = match self {
+            PacketNumber | VersionNumber => None,
+            Command | EchoCommandByte | Result | StimulationMode | ChannelExecution => {
+                self.word(value).map(str::to_owned)
+            }
+            LowFrequencyFactor => Some(match value {
+                0 => "no skip".to_owned(),
+                1 => "skip once".to_owned(),
+                _ => format!("skip {value} times"),
+            }),
+            ActiveChannels | ActiveLowFrequencyChannels => Some(words::channels(value as u8)),
+            InterPulseInterval => Some(words::t2(value as u16)),
+            MainStimulationInterval => {
+                let mode = if value == 0 { "One shot" } else { "Continuous" };
+                Some(format!("{}, {mode} channel list mode", words::t1(value as u16)))
+            }
+        };
+        words.map_or_else(String::new, |words| format!(": {words}"))
     }
+}
 
-    /// Source 000's rule for its values.
-    pub fn rule(self) -> &'static str {
-        self.judged().1
-    }
-
+impl Field {
     /// The good values, and the rule for that.
-    fn judged(self) -> (RangeInclusive<i32>, &'static str) {
+    fn range(self) -> (RangeInclusive<i32>, &'static str) {
         match self {
             PacketNumber => (0..=255, "Packet number is 0 to 255 (source 000, section 4)"),
             Command => (0..=255, "Command is 0 to 255 (source 000, section 3)"),
@@ -103,46 +118,5 @@ impl Field {
             ),
             ChannelExecution => (0..=1, "Channel execution is 0 or 1 (source 000, section 4.3)"),
         }
-    }
-
-    /// The values that source 000 has words for.
-    pub fn named(self) -> Vec<(i8, &'static str)> {
-        let named = |value: i8| Some((value, self.word(value.into())?));
-        (-8..=2).filter_map(named).collect()
-    }
-
-    /// Source 000's word for a value, if it has one.
-    fn word(self, value: i32) -> Option<&'static str> {
-        match self {
-            Result => ErrorCode(value.try_into().ok()?).words(),
-            StimulationMode => rehastim2::StimulationMode(value.try_into().ok()?).words(),
-            ChannelExecution => {
-                ["Fixed interval", "As fast as possible"].get(usize::try_from(value).ok()?).copied()
-            }
-            Command | EchoCommandByte => names::of(value.try_into().ok()?),
-            _ => None,
-        }
-    }
-
-    /// What stands behind the number: its unit or its meaning.
-    pub fn meaning(self, value: i32) -> String {
-        let words = match self {
-            PacketNumber | VersionNumber => None,
-            Command | EchoCommandByte | Result | StimulationMode | ChannelExecution => {
-                self.word(value).map(str::to_owned)
-            }
-            LowFrequencyFactor => Some(match value {
-                0 => "no skip".to_owned(),
-                1 => "skip once".to_owned(),
-                _ => format!("skip {value} times"),
-            }),
-            ActiveChannels | ActiveLowFrequencyChannels => Some(words::channels(value as u8)),
-            InterPulseInterval => Some(words::t2(value as u16)),
-            MainStimulationInterval => {
-                let mode = if value == 0 { "One shot" } else { "Continuous" };
-                Some(format!("{}, {mode} channel list mode", words::t1(value as u16)))
-            }
-        };
-        words.map_or_else(String::new, |words| format!(": {words}"))
     }
 }

@@ -1,6 +1,6 @@
 //! The commands of source 000, section 3.
 
-const COMMANDS: [(u8, &str); 45] = [
+pub const COMMANDS: [(u16, &str); 45] = [
     (1, "Init"),
     (2, "InitAck"),
     (3, "UnknownCommand"),
@@ -47,8 +47,3 @@ const COMMANDS: [(u8, &str); 45] = [
     (89, "MotomedCommandDone"),
     (90, "MotomedError"),
 ];
-
-/// The name of a command, if section 3 has its number.
-pub fn of(number: u8) -> Option<&'static str> {
-    COMMANDS.iter().find(|(value, _)| *value == number).map(|(_, name)| *name)
-}

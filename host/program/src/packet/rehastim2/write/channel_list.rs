@@ -1,9 +1,11 @@
 //! `yarrowbell packet write rehastim2 init-channel-list-mode`
 
-use super::{argument, interval, named};
+use super::interval;
 use crate::channels::{self, Channels, NotChannels};
 use crate::number;
+use crate::packet::field::Field as _;
 use crate::packet::rehastim2::field::Field;
+use crate::packet::{argument, named};
 use crate::write::argument::Argument;
 use clap::Args;
 use yarrowbell::rehastim2::{ChannelList, Command};

@@ -1,6 +1,7 @@
 //! `yarrowbell packet write rehastim2 init`
 
 use crate::number;
+use crate::packet::field::Field as _;
 use crate::packet::rehastim2::field::Field;
 use clap::Args;
 use yarrowbell::rehastim2::Command;

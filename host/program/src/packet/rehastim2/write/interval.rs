@@ -1,6 +1,7 @@
 //! Intervals: coded, or in milliseconds.
 
 use crate::number;
+use crate::packet::field::Field as _;
 use crate::packet::rehastim2::field::Field;
 use thiserror::Error;
 
@@ -33,7 +34,7 @@ fn coded<N: TryFrom<u64>>(word: &str, field: Field, least: u64) -> Result<N, Not
     let code = match word.strip_suffix("ms") {
         None => number::whole(word).ok_or_else(outside)?,
         Some(number) => {
-            let time = milliseconds(number).ok_or_else(outside)?;
+            let time = number::millionths(number).ok_or_else(outside)?;
             let above_least = time.checked_sub(least).ok_or_else(outside)?;
             let (below, above) = (above_least / STEP, above_least.div_ceil(STEP));
             if below != above {
@@ -54,12 +55,4 @@ fn between(field: Field, below: u64, above: u64, least: u64) -> Option<NotInterv
         });
         NotInterval::Between { below, above, ms }
     })
-}
-
-/// With at most six digits behind the point.
-fn milliseconds(number: &str) -> Option<u64> {
-    let (whole, part) = number.split_once('.').unwrap_or((number, "0"));
-    let part: u64 =
-        number::whole::<u64>(part).filter(|_| part.len() <= 6)? * 10_u64.pow(6 - part.len() as u32);
-    number::whole::<u64>(whole)?.checked_mul(MILLISECOND)?.checked_add(part)
 }

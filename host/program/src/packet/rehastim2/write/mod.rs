@@ -1,19 +1,19 @@
 //! `yarrowbell packet write rehastim2`
 
-mod argument;
 mod channel_list;
 mod init;
 mod interval;
-mod json;
-mod named;
 mod response;
 mod stimulation_mode;
 mod unknown_command;
 
 use super::field::Field;
+use super::Rehastim2;
 use crate::failure::{BadInput, Failure, Out};
+use crate::number;
+use crate::packet::field::Field as _;
+use crate::packet::written;
 use crate::write::argument::Argument;
-use crate::{hex, number};
 use clap::{Args, Subcommand};
 use yarrowbell::rehastim2::{Command, LONGEST_WRITTEN};
 
@@ -68,11 +68,7 @@ Example:
 
 impl Write {
     pub fn run(self, out: Out) -> Result<(), Failure> {
-        let packet = self.packet()?;
-        if self.json {
-            return json::print(&packet, out);
-        }
-        Ok(writeln!(out, "{}", hex::spelt(&packet))?)
+        written::print::<Rehastim2>(&self.packet()?, self.json, out)
     }
 
     /// The bytes of its packet, if the library writes it.

@@ -1,7 +1,7 @@
 //! A response that has a result and nothing else.
 
-use super::{argument, named};
 use crate::packet::rehastim2::field::Field;
+use crate::packet::{argument, named};
 use crate::write::argument::Argument;
 use clap::Args;
 use yarrowbell::rehastim2::ErrorCode;

@@ -1,7 +1,8 @@
 //! `yarrowbell packet write rehastim2 get-stimulation-mode-ack`
 
-use super::{argument, named, response};
+use super::response;
 use crate::packet::rehastim2::field::Field;
+use crate::packet::{argument, named};
 use crate::write::argument::Argument;
 use clap::Args;
 use yarrowbell::rehastim2::{Command, ErrorCode, StimulationMode};

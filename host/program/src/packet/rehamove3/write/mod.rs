@@ -1,0 +1,119 @@
+//! `yarrowbell packet write rehamove3`
+
+mod acknowledgement;
+mod balance;
+mod ll_channel_config;
+mod ll_channel_config_ack;
+mod ll_init;
+mod point;
+
+use super::field::Field;
+use super::Rehamove3;
+use crate::failure::{BadInput, Failure, Out};
+use crate::number;
+use crate::packet::field::Field as _;
+use crate::packet::{argument, written};
+use crate::write::argument::Argument;
+use clap::{Args, Subcommand};
+use yarrowbell::rehamove3::{Command, NotWritten, LONGEST_WRITTEN};
+
+/// Write a packet of the RehaMove3 (source 002)
+#[derive(Args)]
+#[command(after_help = "\
+Examples:
+  yarrowbell packet write rehamove3 ll-stop --packet 2
+  yarrowbell packet write rehamove3 ll-stop-ack --result no-error --packet 2")]
+pub struct Write {
+    #[command(subcommand)]
+    command: Words,
+
+    /// Packet number, 0 to 63: a response echoes it
+    #[arg(long, visible_alias = "number", value_name = "N", default_value_t = 0, global = true)]
+    #[arg(value_parser = number::ruled::<u8>(Field::PacketNumber.rule()), allow_negative_numbers = true)]
+    packet: u8,
+
+    /// Print the packet as JSON, one object in a line
+    #[arg(long, global = true)]
+    json: bool,
+}
+
+/// A command in words.
+#[derive(Subcommand)]
+enum Words {
+    LlInit(ll_init::Words),
+    /// Write an Ll_init_ack: the response to an Ll_init
+    #[command(after_help = "\
+Example:
+  yarrowbell packet write rehamove3 ll-init-ack --result no-error")]
+    LlInitAck(acknowledgement::Words),
+    LlChannelConfig(ll_channel_config::Words),
+    LlChannelConfigAck(ll_channel_config_ack::Words),
+    /// Write an Ll_stop: the PC ends the low-level mode, and the high voltage is switched off
+    #[command(after_help = "\
+Example:
+  yarrowbell packet write rehamove3 ll-stop --packet 2")]
+    LlStop,
+    /// Write an Ll_stop_ack: the response to an Ll_stop
+    #[command(after_help = "\
+Example:
+  yarrowbell packet write rehamove3 ll-stop-ack --result no-error --packet 2")]
+    LlStopAck(acknowledgement::Words),
+}
+
+impl Write {
+    pub fn run(self, out: Out) -> Result<(), Failure> {
+        written::print::<Rehamove3>(&self.packet()?, self.json, out)
+    }
+
+    /// The bytes of its packet, if the library writes it.
+    fn packet(&self) -> Result<Vec<u8>, BadInput> {
+        let mut packet = [0; LONGEST_WRITTEN];
+        let written = match self.command.command() {
+            Some(command) => yarrowbell::rehamove3::write(self.packet, &command, &mut packet),
+            None => Err(NotWritten::NotGood),
+        };
+        let used = written.map_err(|why| self.fault(why))?;
+        Ok(packet[..used].to_vec())
+    }
+
+    /// What is said of the argument at fault.
+    fn fault(&self, why: NotWritten) -> BadInput {
+        let number = argument::of("--packet", Field::PacketNumber, self.packet);
+        let mut arguments = [number].into_iter().chain(self.command.arguments());
+        if let Some(fault) = arguments.find_map(|argument| argument.fault(why)) {
+            return fault;
+        }
+        match (&self.command, why) {
+            (Words::LlChannelConfig(words), NotWritten::NotBalanced { charge }) => {
+                let what = balance::told(words.points(), charge);
+                BadInput::argument("--point", format!("the pulse is not good ({why}): {what}"))
+            }
+            _ => unreachable!("the library refuses by the rules of source 002 and request 13"),
+        }
+    }
+}
+
+impl Words {
+    /// None of a pulse with more points than it can have.
+    fn command(&self) -> Option<Command> {
+        Some(match self {
+            Words::LlInit(words) => words.command(),
+            Words::LlInitAck(words) => Command::LlInitAck { result: words.result() },
+            Words::LlChannelConfig(words) => words.command()?,
+            Words::LlChannelConfigAck(words) => words.command(),
+            Words::LlStop => Command::LlStop,
+            Words::LlStopAck(words) => Command::LlStopAck { result: words.result() },
+        })
+    }
+
+    /// Those that can be spelt with a value that is not good.
+    fn arguments(&self) -> Vec<Argument> {
+        match self {
+            Words::LlInit(words) => words.arguments(),
+            Words::LlInitAck(words) | Words::LlStopAck(words) => words.arguments(),
+            Words::LlChannelConfig(words) => words.arguments(),
+            Words::LlChannelConfigAck(words) => words.arguments(),
+            Words::LlStop => Vec::new(),
+        }
+    }
+}
