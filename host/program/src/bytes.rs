@@ -71,6 +71,14 @@ impl Bytes {
         Ok(Bytes { all: hex.bytes, origin: Origin::Text(source, lines) })
     }
 
+    /// The file that has them, or standard input, if they were not words.
+    pub fn file(&self) -> Option<&Path> {
+        match &self.origin {
+            Origin::Words => None,
+            Origin::Text(source, _) | Origin::Themselves(source, _) => Some(source.path()),
+        }
+    }
+
     /// What is wrong with them, from this byte on if one is named, which counts from 0.
     pub fn fault(&self, at: Option<usize>, what: impl Display) -> BadInput {
         match (&self.origin, at) {

@@ -4,6 +4,7 @@ use super::field::{Field, Value};
 use super::framing::Framing;
 use super::names;
 use crate::layout::{self, Place, Row};
+use crate::picture::pulse::Panel;
 use serde::Serialize;
 use yarrowbell::packets::{Captured, Packets};
 
@@ -42,6 +43,9 @@ pub trait Generation: 'static {
     fn behind_in_row(packet: &Self::Packet) -> Vec<String>;
 
     fn more(read: Option<&Self::Packet>) -> Self::More;
+
+    /// The pulse of a packet to be drawn, if it has one.
+    fn pulse(packet: &Self::Packet) -> Option<Panel>;
 }
 
 /// What the library read.

@@ -20,7 +20,7 @@ mod names;
 mod read;
 mod reading;
 mod reason;
-mod rehamove3;
+pub mod rehamove3;
 mod rehastim2;
 mod rows;
 mod stuffing;

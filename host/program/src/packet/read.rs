@@ -7,10 +7,14 @@ use super::rehamove3::Rehamove3;
 use super::rehastim2::Rehastim2;
 use super::{all, first};
 use crate::bytes::Bytes;
-use crate::failure::{Failure, Out};
+use crate::failure::{BadInput, Failure, Out};
+use crate::output::{Leaving, Output, Outputs};
+use crate::picture::pulse::{self, Panel};
 use clap::Args;
 use std::ffi::OsString;
+use std::path::{Path, PathBuf};
 use std::process::ExitCode;
+use yarrowbell::Answer;
 
 /// Read the first packet of a capture, or with --all every one: its bytes, its fields, its checksum,
 /// and the answer to it
@@ -50,6 +54,10 @@ pub struct Read {
     #[arg(long)]
     json: bool,
 
+    /// Draw the pulse of the RehaMove3's Ll_channel_config
+    #[arg(long, value_name = "OUT.svg", conflicts_with = "all")]
+    plot: Option<PathBuf>,
+
     /// Exit with status 1 if a packet is refused: if an answer is not 0
     #[arg(long)]
     check: bool,
@@ -62,17 +70,43 @@ impl Read {
             return Err(given.fault(None, "no bytes").into());
         }
         let good = match self.device {
-            Device::Rehastim2 => self.read::<Rehastim2>(&given.all, out)?,
-            Device::Rehamove3 => self.read::<Rehamove3>(&given.all, out)?,
+            Device::Rehastim2 => self.read::<Rehastim2>(&given, out)?,
+            Device::Rehamove3 => self.read::<Rehamove3>(&given, out)?,
         };
         Ok(if self.check && !good { ExitCode::FAILURE } else { ExitCode::SUCCESS })
     }
 
     /// Prints the first packet, or all of them, and says whether every answer is 0.
-    fn read<G: Generation>(&self, bytes: &[u8], out: Out) -> Result<bool, Failure> {
+    fn read<G: Generation>(&self, given: &Bytes, out: Out) -> Result<bool, Failure> {
         if self.all {
-            return all::print::<G>(bytes, self.json, out);
+            return all::print::<G>(&given.all, self.json, out);
         }
-        first::print(&Reading::<G>::first(bytes), self.json, out)
+        let reading = Reading::<G>::first(&given.all);
+        let plot = self.plot.as_deref().map(|path| planned(path, &reading, given)).transpose()?;
+        let out: Out = &mut Leaving::new(out, plot.is_some());
+        let good = first::print(&reading, self.json, out)?;
+        if let Some((plot, drawn)) = plot {
+            plot.put(&pulse::svg(&[drawn]), out)?;
+        }
+        Ok(good)
     }
+}
+
+/// Where the packet's pulse is drawn, if it has one.
+fn planned<G: Generation>(
+    path: &Path,
+    reading: &Reading<G>,
+    given: &Bytes,
+) -> Result<(Output, Panel), BadInput> {
+    let drawn =
+        reading.found.packet.ok().and_then(|packet| G::pulse(&packet)).ok_or_else(|| {
+            let what = match (reading.answer(), reading.name()) {
+                (Answer::Done, Some(name)) => format!("the packet is {name}"),
+                (Answer::Done, None) => "the packet is of another command".to_owned(),
+                _ => reading.answer_told(),
+            };
+            BadInput::argument("--plot", format!("there is no pulse to draw: {what}"))
+        })?;
+    let capture = given.file().map(|file| ("the capture", file));
+    Ok((Outputs::new(capture).plan(path)?, drawn))
 }

@@ -27,6 +27,7 @@ struct Unit {
     ticks: u32,
 }
 
+const MICROSECONDS: Unit = Unit { name: "microseconds (µs)", ticks: 1 };
 const MILLISECONDS: Unit = Unit { name: "milliseconds (ms)", ticks: 10 };
 const SECONDS: Unit = Unit { name: "seconds (s)", ticks: 10_000 };
 
@@ -36,13 +37,23 @@ const LONG: u32 = 100_000;
 pub struct Time {
     end: u32,
     clocks: RangedCoordu32,
+    unit: Unit,
 }
 
 impl Time {
     /// From clock 0. One tick is shown if the end is 0 too.
     pub fn until(end: u32) -> Time {
+        Time::counted(end, if end < LONG { MILLISECONDS } else { SECONDS })
+    }
+
+    /// The same of microseconds.
+    pub fn of_microseconds(end: u32) -> Time {
+        Time::counted(end, MICROSECONDS)
+    }
+
+    fn counted(end: u32, unit: Unit) -> Time {
         let end = end.max(1);
-        Time { end, clocks: (0..end).into() }
+        Time { end, clocks: (0..end).into(), unit }
     }
 
     /// The column of pixels of a clock.
@@ -53,14 +64,6 @@ impl Time {
     /// The clocks that are written at the axis.
     fn round(&self) -> Vec<u32> {
         self.clocks.key_points(NUMBERS)
-    }
-
-    fn unit(&self) -> Unit {
-        if self.end < LONG {
-            MILLISECONDS
-        } else {
-            SECONDS
-        }
     }
 
     /// Rules from the numbers up through an area.
@@ -75,7 +78,7 @@ impl Time {
     pub fn draw_axis(&self, area: &Area) -> Drawn {
         area.draw(&filled((LEFT, 0), (RIGHT - LEFT, 1), ink::GREY))?;
         let number = ink::text(ink::PLAIN, HPos::Center, VPos::Top);
-        let unit = self.unit();
+        let unit = &self.unit;
         for clock in self.round() {
             let column = self.column(clock);
             area.draw(&filled((column, 0), (1, 6), ink::GREY))?;
@@ -106,8 +109,8 @@ mod tests {
     #[test]
     fn round_numbers() {
         let written = |end| -> Vec<String> {
-            let (time, unit) = (Time::until(end), Time::until(end).unit());
-            time.round().into_iter().map(|clock| unit.written(clock)).collect()
+            let time = Time::until(end);
+            time.round().into_iter().map(|clock| time.unit.written(clock)).collect()
         };
         assert_eq!(written(0), ["0", "0.1"]);
         assert_eq!(written(300), ["0", "5", "10", "15", "20", "25", "30"]);

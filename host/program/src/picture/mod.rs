@@ -8,6 +8,7 @@ mod labels;
 mod lanes;
 mod legend;
 mod panel;
+pub mod pulse;
 mod scale;
 mod thinning;
 mod tint;

@@ -1,12 +1,13 @@
 //! Packets of the RehaMove3: source 002.
 
-mod amounts;
-mod areas;
+pub mod amounts;
+pub mod areas;
 mod data;
 mod field;
 mod more;
 mod names;
-mod points;
+mod plot;
+pub mod points;
 mod read;
 mod write;
 
@@ -16,6 +17,7 @@ use super::field::Value;
 use super::framing::{Counted, Framing, Part};
 use super::generation::{Data, Generation, Read};
 use crate::layout::Row;
+use crate::picture::pulse::Panel;
 use field::Field;
 use more::More;
 use yarrowbell::rehamove3::{self, Packet, Packets, LONGEST_DATA, LONGEST_PACKET};
@@ -65,5 +67,9 @@ impl Generation for Rehamove3 {
 
     fn more(read: Option<&Packet>) -> More {
         More::of(read)
+    }
+
+    fn pulse(packet: &Packet) -> Option<Panel> {
+        plot::of_packet(packet)
     }
 }

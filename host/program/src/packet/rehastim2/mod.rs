@@ -12,6 +12,7 @@ use super::field::Value;
 use super::framing::{Counted, Framing, Part};
 use super::generation::{Data, Generation, Read};
 use crate::layout::Row;
+use crate::picture::pulse::Panel;
 use field::Field;
 use serde::Serialize;
 use yarrowbell::rehastim2::{self, Packet, Packets, LONGEST_DATA};
@@ -65,5 +66,9 @@ impl Generation for Rehastim2 {
 
     fn more(_: Option<&Packet>) -> Nothing {
         Nothing {}
+    }
+
+    fn pulse(_: &Packet) -> Option<Panel> {
+        None
     }
 }

@@ -8,13 +8,16 @@ mod ll_init;
 mod point;
 
 use super::field::Field;
-use super::Rehamove3;
+use super::{plot, Rehamove3};
 use crate::failure::{BadInput, Failure, Out};
 use crate::number;
+use crate::output::{Leaving, Outputs};
 use crate::packet::field::Field as _;
 use crate::packet::{argument, written};
+use crate::picture::pulse;
 use crate::write::argument::Argument;
 use clap::{Args, Subcommand};
+use std::path::Path;
 use yarrowbell::rehamove3::{Command, NotWritten, LONGEST_WRITTEN};
 
 /// Write a packet of the RehaMove3 (source 002)
@@ -62,18 +65,21 @@ Example:
 
 impl Write {
     pub fn run(self, out: Out) -> Result<(), Failure> {
-        written::print::<Rehamove3>(&self.packet()?, self.json, out)
-    }
-
-    /// The bytes of its packet, if the library writes it.
-    fn packet(&self) -> Result<Vec<u8>, BadInput> {
-        let mut packet = [0; LONGEST_WRITTEN];
-        let written = match self.command.command() {
-            Some(command) => yarrowbell::rehamove3::write(self.packet, &command, &mut packet),
+        let plot = self.command.plot().map(|path| Outputs::new([]).plan(path)).transpose()?;
+        let out: Out = &mut Leaving::new(out, plot.is_some());
+        let (mut packet, command) = ([0; LONGEST_WRITTEN], self.command.command());
+        let written = match &command {
+            Some(command) => yarrowbell::rehamove3::write(self.packet, command, &mut packet),
             None => Err(NotWritten::NotGood),
         };
-        let used = written.map_err(|why| self.fault(why))?;
-        Ok(packet[..used].to_vec())
+        if let Ok(used) = written {
+            written::print::<Rehamove3>(&packet[..used], self.json, out)?;
+        }
+        let drawn = command.and_then(|command| plot::of_command(&command, written));
+        if let (Some(plot), Some(drawn)) = (plot, drawn) {
+            plot.put(&pulse::svg(&[drawn]), out)?;
+        }
+        written.map(|_| ()).map_err(|why| self.fault(why).into())
     }
 
     /// What is said of the argument at fault.
@@ -104,6 +110,13 @@ impl Words {
             Words::LlStop => Command::LlStop,
             Words::LlStopAck(words) => Command::LlStopAck { result: words.result() },
         })
+    }
+
+    fn plot(&self) -> Option<&Path> {
+        match self {
+            Words::LlChannelConfig(words) => words.plot.as_deref(),
+            _ => None,
+        }
     }
 
     /// Those that can be spelt with a value that is not good.
