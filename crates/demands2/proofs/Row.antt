@@ -5,7 +5,7 @@ use Rattle.packets.proofs.Row as any
 use Rattle.commands2.specs.Commands.{numberOf, dataOf}
 use Rattle.packets2.specs.Rehastim2.{rehastim2}
 use Rattle.packets2.proofs.Lawful.{lawful}
-use Rattle.demands2.specs.Row.{WrittenAlone}
+use Rattle.demands2.specs.RoundTrips.{WrittenAlone}
 
 pub resynchronises : Resynchronises rehastim2
 resynchronises = any.resynchronises rehastim2 lawful

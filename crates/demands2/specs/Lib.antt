@@ -1,5 +1,4 @@
 pub mod Demand1
 pub mod WhichAnswers
 pub mod RoundTrips
-pub mod Row
 pub mod Examples

@@ -7,13 +7,17 @@ use mathlib.Core.List.{List, _∷_, _++_}
 use lib.ListN.{length, take, drop}
 use Rattle.packets.specs.Reader.{reading, dataPut}
 use Rattle.packets.specs.Writer.{framed}
-use Rattle.packets.specs.Line.{Garbage, packetAt}
+use Rattle.packets.specs.Line.{Garbage, Alone, packetAt}
 use Rattle.packets.specs.RoundTrips.{ReadBack, AreBytes}
 use Rattle.commands2.specs.declared.Command.{Command}
 use Rattle.commands2.specs.declared.Command.the-variants.{Other}
 use Rattle.commands2.specs.Commands.{numberOf, dataOf, commandOf, isOther}
 use Rattle.packets2.specs.Rehastim2.{rehastim2}
-use Rattle.writer2.specs.Writer.{wrote, written}
+use Rattle.writer2.specs.Writer.{packetBytes, wrote, written}
+
+-- each packet of the writer is whole, and nothing else
+abbrev pub WrittenAlone : Type 0
+WrittenAlone = (packet : ℕ) (c : Command) → Alone (packetBytes packet c)
 
 -- what the writer wrote, behind garbage and before any bytes, reads back as that command
 abbrev pub ReadsBack : Type 0

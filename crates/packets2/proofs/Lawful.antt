@@ -50,7 +50,7 @@ pub size-range : (n : ℕ) → sizeGood n ≡ true → (2 ≤ n) × (n ≤ 62)
 unfolding sizeGood
 size-range n e = let t = both (leb 2 n) (leb n 62) e in (leb-true 2 n (t .0), leb-true n 62 (t .1))
 
-short-data : (c : List ℕ) → sizeGood (length (plain c)) ≡ true → length (dataIn c) ≤ 60
+short-data : (c : List ℕ) → sizeGood (length (plain c)) ≡ true → length (dataIn c) ≤ rehastim2 .longest
 short-data c e = omega (arith, length-drop 2 (plain c), size-range (length (plain c)) e .1)
 
 pub lawful : Lawful rehastim2
