@@ -40,7 +40,8 @@ module _ {C : Type 0} (g : Generation C) (laws : Lawful g) where
     along-some n h =
         let body = bodyIn s in
         let used : first g s .used ≡ usedIn s =
-        ap (λ (r : Reading C). r .used) (finished g s (g .longest) h) ∙ answered-used g (bodyAnswer g body (g .longest)) (covered g body) (usedIn s) (has-room g laws body) in
+        ap (λ (r : Reading C). r .used) (finished g s (g .longest) h)
+        ∙ answered-used g (bodyAnswer g body (g .longest)) (covered g body) (usedIn s) (has-room g laws body) in
         rw (used, ne-eqb (usedIn s) 0 h)
 
   -- as many turns as there are bytes are enough

@@ -28,7 +28,9 @@ module _ {C : Type 0} (g : Generation C) where
       let c = covered g body in
       not-16 (not (g .checkRight body)) (not (g .lengthRight body)) (not (pairsGood false c)) (not (g .sizeGood (length (plain c))))
       (not (g .right (plain c))) (ltb (g .longest) (length (dataIn c)))
-      (λ long size. le-ltb (g .longest) (length (dataIn c)) (laws .short-data body (not-false (g .lengthRight body) long) (not-false (g .sizeGood (length (plain c))) size)))
+      (λ long size.
+      le-ltb (g .longest) (length (dataIn c))
+      (laws .short-data body (not-false (g .lengthRight body) long) (not-false (g .sizeGood (length (plain c))) size)))
 
   -- so that a reading uses the bytes to the stop, and moves with its packet
   pub answered-used : (a : ℕ) (c : List ℕ) (used : ℕ) → eqb a 16 ≡ false → answered g a c used .used ≡ used

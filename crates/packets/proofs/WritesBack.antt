@@ -7,13 +7,12 @@ use lib.ListN.{length, take, drop}
 use lib.Seq.{take-append-seam}
 use Rattle.stuffing.specs.Stuffing.{startByte, stopByte}
 use Rattle.framing.specs.Packet.{packetOf}
-use Rattle.framing.specs.Scan.{firstFound}
 use Rattle.packets.specs.Generation.{Generation}
 use Rattle.packets.specs.Reader.{plain, dataIn, covered, reading, dataPut}
 use Rattle.packets.specs.Writer.{framed, writtenOf}
 use Rattle.packets.specs.Laws.{Lawful}
 use Rattle.packets.specs.Line.{packetAt}
-use Rattle.packets.proofs.Readings.{Passed, bodyIn, putOver, taken, read-found, put-found}
+use Rattle.packets.proofs.Readings.{bodyIn, putOver, taken, read-found, put-found}
 use Rattle.packets.proofs.Writings.{answers-0, bytes-written}
 use Rattle.packets.proofs.Ends.{packet-is}
 

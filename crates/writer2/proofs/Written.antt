@@ -3,7 +3,7 @@ use mathlib.Core.Path.{_≡_, refl, ap, ap₂, _∙_}
 use mathlib.Core.List.{List, [], _∷_, _++_}
 use Prim.Native.Nat.{ℕ, zero, suc, _+_, _≤_, _<_}
 use native.Mathlib.Omega.{arith}
-use lib.ListN.{length, take, drop, getD, replicate, length-append, length-take}
+use lib.ListN.{length, take, getD, replicate, length-append, length-take}
 use Rattle.stuffing.specs.Stuffing.{stuffed}
 use Rattle.stuffing.proofs.Laws.{length-stuffed-le}
 use Rattle.slices.proofs.Front.{front}
