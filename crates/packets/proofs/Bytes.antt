@@ -1,4 +1,4 @@
--- A packet's data is of bytes where it stands among bytes. Assumes nothing.
+-- A packet's content, and so its data, is of bytes where it stands among bytes. Assumes nothing.
 use Prim.Native.Nat.{ℕ, zero, suc, _+_, _-_, _<_}
 use mathlib.Core.Bool.{Bool, true, false, cond}
 use mathlib.Core.List.{List, [], _∷_, _++_}
@@ -38,8 +38,12 @@ unstuffed-bytes false (b ∷ l) h = by (eqb b stuffingByte) (λ after. unstuffed
     by false k = cons-bytes b (unstuffed false l) (h 0) (k false)
 
 -- wherever the header ends
-pub data-bytes : {C : Type 0} (g : Generation C) (s : List ℕ) (f : Found) → AreBytes s → AreBytes (dataIn (covered g (bodyAt s f)))
-unfolding bodyAt
-data-bytes g s f h =
-    let body : AreBytes (bodyAt s f) = take-bytes (f .used - 1 - f .body) (drop (f .body) s) (drop-bytes (f .body) s h) in
-    drop-bytes 2 (plain (covered g (bodyAt s f))) (unstuffed-bytes false (covered g (bodyAt s f)) (drop-bytes (g .header) (bodyAt s f) body))
+module _ {C : Type 0} (g : Generation C) (s : List ℕ) (f : Found) (h : AreBytes s) where
+  pub content-bytes : AreBytes (plain (covered g (bodyAt s f)))
+  unfolding bodyAt
+  content-bytes =
+      let body : AreBytes (bodyAt s f) = take-bytes (f .used - 1 - f .body) (drop (f .body) s) (drop-bytes (f .body) s h) in
+      unstuffed-bytes false (covered g (bodyAt s f)) (drop-bytes (g .header) (bodyAt s f) body)
+
+  pub data-bytes : AreBytes (dataIn (covered g (bodyAt s f)))
+  data-bytes = drop-bytes 2 (plain (covered g (bodyAt s f))) content-bytes
