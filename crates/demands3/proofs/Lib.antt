@@ -1,0 +1,13 @@
+pub mod Demand1
+pub mod WhichAnswers
+pub mod Writable
+pub mod Longest
+pub mod Points
+pub mod NoCharge
+pub mod ReadsBack
+pub mod WritesBack
+pub mod RestUnused
+pub mod Row
+pub mod ReadCharge
+pub mod StartValue
+pub mod Examples

@@ -1,0 +1,10 @@
+pub mod Demand1
+pub mod WhichAnswers
+pub mod RoundTrips
+pub mod Longest
+pub mod Points
+pub mod NoCharge
+pub mod ReadCharge
+pub mod Section7
+pub mod StartValue
+pub mod Examples
