@@ -16,7 +16,7 @@ const PAGE: Page = Page {
     units: "\
 The unit is the proved one, with a ring that has room for the whole session. Its trace is read by
 the guess and by document 01.",
-    session: "\
+    input: "\
 0 90 01 20 00 31 4C       # Init of channels 1 and 3, t1 103 ms
 5 BA 01 48 28 02 2C 1E    # Update of their settings, single pulses
 41200 end",
@@ -24,6 +24,7 @@ the guess and by document 01.",
 The last record is 40 mA at clock 41,200; the guess makes 41,200 mA of it, where no channel can have
 more than 127. It takes the clock's two lower bytes for the current and its two upper bytes for the
 width. That its channel is right makes it look good.",
+    source: "document 01",
     rule: "\
 One byte of kind, then the body that the kind fixes, numbers little endian:
 - 02: clock 4, channel 1 (1 to 8), width 2, current 1
@@ -73,7 +74,7 @@ pub fn teach(out: Out) -> Result<Drawn, Failure> {
     writeln!(out, "released: same clock, channel, width, current.")?;
     PAGE.end(out)?;
 
-    Ok(Drawn {
+    Ok(Drawn::Courses {
         titles: ["wrong: the trace by guessed fields", "proved: what the unit released"],
         courses: Courses(vec![guessed(&done, &records), done]),
         end: session.end(),

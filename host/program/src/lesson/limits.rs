@@ -19,7 +19,7 @@ fallen silent.",
     units: "\
 The lax unit has the loosest profile. A strict one allows at most 300 µs on channel 3, and is as
 the lax one in all else. One strict unit is wrong; the other is proved, as the lax one is.",
-    session: "\
+    input: "\
 0 88 01 20 00 30 12       # Init of channels 1 and 3
 5 BB 01 48 28 22 2C 1E    # Update, within the limits of both profiles
 150 BC 01 48 00 03 74 00  # Update to 0 mA on both channels, with 500 µs on channel 3
@@ -28,6 +28,7 @@ the lax one in all else. One strict unit is wrong; the other is proved, as the l
 Demand 3 is proved of proved units. The wrong strict one, beside the lax one, breaks its first
 sentence: from clock 200 on it pulses by its old settings, where the lax one has the new ones and
 is silent. The proved strict one has tripped at answer 9 and is silent too: the sentence holds.",
+    source: "document 01",
     rule: "\
 Update holds settings for eight channels by value, those not listed being zero. It is over a limit
 if one channel's current, width or charge is.
@@ -74,7 +75,7 @@ pub fn teach(out: Out) -> Result<Drawn, Failure> {
     writeln!(out)?;
     let proved = beside_lax("proved strict", &mut guard(STRICT), &session, out)?;
     PAGE.end(out)?;
-    Ok(Drawn {
+    Ok(Drawn::Courses {
         titles: [
             "wrong strict: it pulses where the lax unit is silent",
             "proved strict: it trips at answer 9",

@@ -1,5 +1,6 @@
 //! `yarrowbell lesson`
 
+mod charge;
 mod fields;
 mod limits;
 mod page;
@@ -9,13 +10,14 @@ mod wrong;
 use crate::course::Courses;
 use crate::failure::{Failure, Out};
 use crate::output::{Leaving, Outputs};
+use crate::picture::pulse;
 use clap::{Args, Subcommand};
 use std::path::PathBuf;
 
 /// Show a mistake of the classroom: a unit that makes it beside the proved one
 ///
 /// Each lesson prints the wrong code that it runs, what came of it beside the proved unit on the
-/// same input, the rule of document 01 and what is proved.
+/// same input, the customer's rule and what is proved.
 #[derive(Args)]
 #[command(after_help = "\
 Example:
@@ -42,39 +44,68 @@ Example:
 Example:
   yarrowbell lesson limits")]
     Limits(Words),
+    /// A pulse whose currents are equal and opposite leaves charge behind, for they flow unequally long
+    #[command(after_help = "\
+Example:
+  yarrowbell lesson charge")]
+    Charge(Plot),
+}
+
+#[derive(Args)]
+struct Plot {
+    /// Draw the wrong one above the proved one
+    #[arg(long, value_name = "OUT.svg")]
+    plot: Option<PathBuf>,
 }
 
 #[derive(Args)]
 struct Words {
-    /// Draw the wrong one above the proved one
-    #[arg(long, value_name = "OUT.svg")]
-    plot: Option<PathBuf>,
+    #[command(flatten)]
+    plot: Plot,
 
     /// Draw a lane for every channel, also for those that are neither listed nor pulse
     #[arg(long, requires = "plot")]
     all_lanes: bool,
 }
 
-/// What a lesson draws: the wrong one, the proved one, and the clock at the end.
-struct Drawn {
-    titles: [&'static str; 2],
-    courses: Courses,
-    end: u32,
+/// What a lesson draws: the wrong one and the proved one.
+enum Drawn {
+    /// With the clock at the end.
+    Courses {
+        titles: [&'static str; 2],
+        courses: Courses,
+        end: u32,
+    },
+    Pulses(Vec<pulse::Panel>),
+}
+
+impl Drawn {
+    fn svg(&self, all_lanes: bool) -> String {
+        match self {
+            Drawn::Courses { titles, courses, end } => courses.drawn(titles, *end, all_lanes),
+            Drawn::Pulses(panels) => pulse::svg(panels),
+        }
+    }
 }
 
 impl Lesson {
     pub fn run(self, out: Out) -> Result<(), Failure> {
-        let (Of::Ring(words) | Of::Fields(words) | Of::Limits(words)) = &self.of;
-        let plot = words.plot.as_deref().map(|path| Outputs::new([]).plan(path)).transpose()?;
+        let (plot, all_lanes) = match &self.of {
+            Of::Ring(words) | Of::Fields(words) | Of::Limits(words) => {
+                (&words.plot, words.all_lanes)
+            }
+            Of::Charge(plot) => (plot, false),
+        };
+        let plot = plot.plot.as_deref().map(|path| Outputs::new([]).plan(path)).transpose()?;
         let out: Out = &mut Leaving::new(out, plot.is_some());
         let drawn = match self.of {
             Of::Ring(_) => ring::teach(out)?,
             Of::Fields(_) => fields::teach(out)?,
             Of::Limits(_) => limits::teach(out)?,
+            Of::Charge(_) => Drawn::Pulses(charge::teach(out)?),
         };
         if let Some(plot) = plot {
-            let picture = drawn.courses.drawn(&drawn.titles, drawn.end, words.all_lanes);
-            plot.put(&picture, out)?;
+            plot.put(&drawn.svg(all_lanes), out)?;
         }
         Ok(())
     }

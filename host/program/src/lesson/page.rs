@@ -12,10 +12,12 @@ pub struct Page {
     pub code: &'static str,
     /// What the units are.
     pub units: &'static str,
-    pub session: &'static str,
+    /// A session, or whatever else they are given.
+    pub input: &'static str,
     /// What came of it, in a few words.
     pub seen: &'static str,
-    /// Document 01's own sentences.
+    /// A document, and its own sentences.
+    pub source: &'static str,
     pub rule: &'static str,
     pub proved: &'static [Theorem],
 }
@@ -30,19 +32,24 @@ pub struct Theorem {
 impl Page {
     /// Prints what stands before the play, and hands back the session.
     pub fn begin(&self, out: Out) -> Result<Session, Failure> {
+        self.open("session", out)?;
+        let session = Session::of_text(self.input, Path::new(self.title));
+        Ok(session.expect("the lesson's own session is written as a session file"))
+    }
+
+    /// The same, of an input of this name.
+    pub fn open(&self, name: &str, out: Out) -> Result<(), Failure> {
         writeln!(out, "Lesson {}\n\nThe mistake: {}\n", self.title, self.mistake)?;
         writeln!(out, "The wrong code, which runs here:\n")?;
         indented(self.code, out)?;
-        writeln!(out, "\n{}\n\nThe session:\n", self.units)?;
-        indented(self.session, out)?;
-        writeln!(out)?;
-        let session = Session::of_text(self.session, Path::new(self.title));
-        Ok(session.expect("the lesson's own session is written as a session file"))
+        writeln!(out, "\n{}\n\nThe {name}:\n", self.units)?;
+        indented(self.input, out)?;
+        Ok(writeln!(out)?)
     }
 
     /// Prints what stands behind the play.
     pub fn end(&self, out: Out) -> Result<(), Failure> {
-        writeln!(out, "\n{}\n\nThe rule, in document 01's words:\n", self.seen)?;
+        writeln!(out, "\n{}\n\nThe rule, in {}'s words:\n", self.seen, self.source)?;
         indented(self.rule, out)?;
         writeln!(out, "\nWhat is proved:\n")?;
         for Theorem { name, file, says } in self.proved {

@@ -16,7 +16,7 @@ const PAGE: Page = Page {
     units: "\
 Both units are the proved machine with 40 bytes of memory: bytes 0 to 31 are the ring, and in
 byte 32 the PC's byte waits until the unit takes it. They differ in how they keep their records.",
-    session: "\
+    input: "\
 0 88 01 20 00 30 12       # Init of channels 1 and 3
 5 BB 01 48 28 22 2C 1E    # Update of their settings
 250 C0                    # Stop, which came at clock 240 and has waited until now
@@ -26,6 +26,7 @@ The record of the pulse at clock 245 has 9 bytes and begins at byte 27. In the w
 four bytes lie beside the ring, and its channel, 03, where the Stop waited: the unit takes 03, the
 Stop is lost, and the list goes on. In the proved unit the record goes on at byte 0, and the Stop
 is taken.",
+    source: "document 01",
     rule: "\
 The tail lies from a start kept in the box (0 at first), round at the part's end. Each new record
 first drops old ones until it fits, moving the start past them; other bytes stay.",
@@ -143,7 +144,7 @@ pub fn teach(out: Out) -> Result<Drawn, Failure> {
         }
     }
     PAGE.end(out)?;
-    Ok(Drawn {
+    Ok(Drawn::Courses {
         titles: ["wrong: the Stop at clock 250 is lost", "proved: the Stop at clock 250 is taken"],
         courses,
         end: session.end(),

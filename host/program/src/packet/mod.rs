@@ -31,15 +31,18 @@ use crate::failure::{Failure, Out};
 use clap::{Args, Subcommand};
 use std::process::ExitCode;
 
-/// Read packets of the RehaStim2, or write one
+/// Read packets of the RehaStim2 or the RehaMove3, or write one
 ///
-/// The RehaStim2 speaks ScienceMode2, whose commands stand in packets: between a start byte and a
-/// stop byte, which are stuffed where they stand inside.
+/// Their commands stand in packets: between a start byte and a stop byte, which are stuffed where they
+/// stand inside. The RehaStim2 speaks ScienceMode2 (source 000); the RehaMove3 (source 002) is told its
+/// pulses point by point.
 #[derive(Args)]
 #[command(after_help = "\
 Examples:
   yarrowbell packet read rehastim2 F0 81 49 81 57 00 04 0F
-  yarrowbell packet write rehastim2 watchdog --number 7")]
+  yarrowbell packet write rehastim2 watchdog --number 7
+  yarrowbell packet read rehamove3 F0 81 55 81 59 81 9C 81 78 08 04 0F
+  yarrowbell packet write rehamove3 ll-stop --packet 2")]
 pub struct Packet {
     #[command(subcommand)]
     task: Task,

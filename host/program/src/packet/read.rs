@@ -20,13 +20,17 @@ use yarrowbell::Answer;
 /// and the answer to it
 ///
 /// Prints each byte as it came and unstuffed, with what it is, the value of each field, checksum and
-/// length worked out, and the proved reader's answer. A packet that it refuses is shown as far as its
-/// bytes go, with the place at which it is refused and what would be right there.
+/// length worked out, and the proved reader's answer; of a pulse each point, and the net charge. A
+/// packet that the reader refuses is shown as far as its bytes go, with the place at which it is refused
+/// and what would be right there.
 #[derive(Args)]
 #[command(after_help = "\
 Garbage before a packet is passed over. F0 opens a packet unless 81 stands straight before it, and 0F
 ends one likewise; F0 inside an open packet drops that and opens a new one. Places are counted from 0,
 as source 000's tables count.
+
+A charge is current times duration: in half milliamp microseconds, two of which are one nanocoulomb. A
+pulse is read whatever its net charge.
 
 Bytes in hex may have 0x before them, and spaces, line ends, a comma or a colon between them. In a
 file # begins a comment. A file is taken as the bytes themselves if it is no text: not UTF-8, or with
@@ -36,7 +40,11 @@ hex digits is given as ./F0.
 Examples, a Watchdog, and two packets with garbage between them:
   yarrowbell packet read rehastim2 F0 81 49 81 57 00 04 0F
   yarrowbell packet read rehastim2 F08149815700040F 4142 F08149815700040F --all
-  yarrowbell packet read rehastim2 F08149815700040F --json --check")]
+  yarrowbell packet read rehastim2 F08149815700040F --json --check
+Examples of the RehaMove3, a pulse of three points, and the same drawn:
+  yarrowbell packet read rehamove3 F08155814E81D381AF 040282 815AA55000 0644B000 815AA41000 0F
+  yarrowbell packet read rehamove3 F08155814E81D381AF 040282 815AA55000 0644B000 815AA41000 0F \\
+    --plot pulse.svg")]
 pub struct Read {
     /// Whose packets they are
     #[arg(value_enum)]

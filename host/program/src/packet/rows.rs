@@ -29,13 +29,15 @@ pub fn of<G: Generation>(given: &Given) -> Vec<String> {
     let names = content::names::<G>(&plain(&units));
     let longest = given.framing.longest();
     let within = units.iter().take_while(|unit| unit.at < start + longest);
-    let shown = within
-        .zip(names)
-        .map(|(unit, name)| row(unit.at, unit.bytes, unit.plain, &told(unit, &name)));
-    let shown: Vec<String> = shown.collect();
-    let cut = units.get(shown.len()).map(|unit| given.end() - unit.at);
-    rows.extend(shown);
-    rows.extend(cut.map(|bytes| format!("{:>4}  {} more", "..", counted(bytes as u64, "byte"))));
+    let mut end = given.front();
+    for (unit, name) in within.zip(names) {
+        rows.push(row(unit.at, unit.bytes, unit.plain, &told(unit, &name)));
+        end = unit.at + unit.bytes.len();
+    }
+    if end < given.end() {
+        let more = counted((given.end() - end) as u64, "byte");
+        rows.push(format!("{:>4}  {more} more", ".."));
+    }
     rows.extend(given.stop.map(|stop| row(stop, &[STOP], None, "stop byte")));
     rows
 }

@@ -7,8 +7,9 @@ use clap::{Args, Subcommand};
 /// Write one packet and print its bytes in hex
 #[derive(Args)]
 #[command(after_help = "\
-Example:
-  yarrowbell packet write rehastim2 watchdog --number 7")]
+Examples:
+  yarrowbell packet write rehastim2 watchdog --number 7
+  yarrowbell packet write rehamove3 ll-stop --packet 2")]
 pub struct Write {
     #[command(subcommand)]
     device: Of,

@@ -229,6 +229,12 @@ fn packets_to_read() {
         let packet = independent::rehastim2::compose(rng.gen(), rng.gen_range(0..40), &data);
         spelt(rng, &packet)
     });
+    let lines = ["packet read rehamove3 -", "packet read rehamove3 - --all"];
+    fuzzed(&folder, 0, &lines, |rng| {
+        let data: Vec<u8> = (0..rng.gen_range(0..9)).map(|_| rng.gen()).collect();
+        let packet = independent::rehamove3::compose(rng.gen(), rng.gen_range(0..40), &data);
+        spelt(rng, &packet)
+    });
 }
 
 /// Whatever clock stands in a session, it is played for a moment only.
@@ -257,6 +263,8 @@ fn without_end() {
         "trace - --start 3 --used 14",
         "packet read rehastim2 -",
         "packet read rehastim2 - --all --json",
+        "packet read rehamove3 -",
+        "packet read rehamove3 - --all --json",
         "replay - --until 5",
         "replay s --profile -",
         "session -",

@@ -5,7 +5,7 @@ use crate::run;
 use std::fs;
 use std::path::{Path, PathBuf};
 
-const LESSONS: [&str; 3] = ["ring", "fields", "limits"];
+const LESSONS: [&str; 4] = ["ring", "fields", "limits", "charge"];
 
 /// What a lesson prints, with one space for any number of them.
 fn lesson(name: &str) -> Vec<String> {
@@ -127,6 +127,19 @@ fn limits_pulses_where_the_lax_one_is_silent() {
     );
 }
 
+#[test]
+fn charge_that_stays_behind() {
+    has(
+        "charge",
+        &[
+            "pulse by the wrong test net charge by the library",
+            "250:20 100:0 200:-20 balanced 2,000 half mA µs = 1,000 nC refused, answer 4",
+            "250:20 100:0 250:-20 balanced 0 written",
+            "250:20 2000:-2.5 not balanced 0 written",
+        ],
+    );
+}
+
 /// A lesson begins with the mistake, and the code that it prints is the file that it runs.
 #[test]
 fn the_code_is_the_files() {
@@ -142,7 +155,7 @@ fn the_code_is_the_files() {
     }
 }
 
-/// The rules are document 01's sentences.
+/// The rules are the documents' sentences.
 #[test]
 fn the_rules() {
     let rules = [
@@ -152,6 +165,14 @@ fn the_rules() {
         ("fields", "A record is known by its kind byte alone. What is proved:"),
         ("limits", "It is over a limit if one channel's current, width or charge is."),
         ("limits", "a trip keeps holds and the partial frame. What is proved:"),
+        (
+            "charge",
+            "The rule, in document 02's words: Report the net charge of a pulse as a signed sum",
+        ),
+        (
+            "charge",
+            "refuse to write one whose net charge is not zero, also with 4. What is proved:",
+        ),
     ];
     for (name, rule) in rules {
         assert!(words(&lesson(name).join(" ")).contains(rule), "{name}: {rule}");
@@ -165,6 +186,7 @@ fn the_theorems() {
         ("ring", ["demand1", "calls-keep", "ring-holds-tail"]),
         ("fields", ["demand2", "split-is-row", "claim"]),
         ("limits", ["demand3", "always-zeros", "quiet-at-rest"]),
+        ("charge", ["write-packet-spec", "bounded", "order-free"]),
     ];
     for (lesson_name, theorems) in wanted {
         let printed = lesson(lesson_name);

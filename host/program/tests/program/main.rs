@@ -3,7 +3,10 @@
 mod folder;
 mod independently;
 mod objects;
+mod packet_objects;
 mod random;
+#[path = "../../../tests/shared/random_bytes.rs"]
+mod random_bytes;
 mod retold;
 mod rows;
 mod run;
@@ -40,6 +43,12 @@ mod pages;
 mod papers;
 mod pipes;
 mod plots;
+mod pulse_captures;
+mod pulse_json;
+mod pulse_plots;
+mod pulse_refusals;
+mod pulse_writings;
+mod pulses;
 mod random_events;
 mod read_json;
 mod readings;

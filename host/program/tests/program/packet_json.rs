@@ -1,21 +1,18 @@
 //! `packet read --json` and `packet write --json`, compared with the independent codec.
 
-#[path = "../../../tests/shared/random_bytes.rs"]
-mod random_bytes;
 #[path = "../../../tests/shared/random_packets.rs"]
 mod random_packets;
 
-use crate::objects::{has, hex, number, Object};
+use crate::objects::has;
+use crate::packet_objects::{self, written, Carried, Read};
 use crate::packet_writings::spelt;
-use crate::run::{self, printed};
+use crate::random_bytes;
+use crate::run;
 use crate::seeded::seeded;
-use crate::table::object;
-use independent::rehastim2::{read, write, ChannelList, Command, Reading};
+use independent::rehastim2::{read, write, ChannelList, Command};
 use rand::Rng;
-use random_bytes::{bytes, damaged};
 use random_packets::{command, packet};
 use serde_json::{json, Value};
-use std::path::Path;
 
 /// The keys stand in this order.
 #[test]
@@ -79,50 +76,18 @@ fn refused_packets() {
     }
 }
 
-/// Whole or not, good or not: what is told is what the independent codec reads.
 #[test]
 fn any_bytes() {
-    let mut met = [0; 17];
-    seeded(26_000..26_300, |rng| {
-        let mut capture = if rng.gen() { bytes(rng, 4) } else { Vec::new() };
-        for _ in 0..rng.gen_range(1..=3) {
-            let packet = packet(rng);
-            capture.extend(if rng.gen_ratio(1, 3) { damaged(rng, packet) } else { packet });
-        }
-        let line = format!("packet read rehastim2 --json {}", hex(&capture));
-        let (first, all) = (printed(&line), printed(&format!("{line} --all")));
-        assert_eq!(all.lines().next(), first.lines().next());
-        let mut at = 0;
-        for line in all.lines() {
-            let (told, read) = (object(line), read(&capture[at..], 60));
-            same(&told, &read, at, &capture);
-            met[usize::from(read.answer)] += 1;
-            at = if read.used == 0 { capture.len() } else { at + read.used };
-        }
-        assert_eq!(at, capture.len());
+    packet_objects::any_bytes("rehastim2", 26_000..26_300, packet, |bytes| {
+        let read = read(bytes, 60);
+        let command = read.command.map(|command| carried(command, read.data));
+        Read { answer: read.answer, used: read.used, packet: read.packet, command }
     });
-    for answer in [0, 1, 3, 4] {
-        assert!(met[answer] > 20, "{met:?} show little");
-    }
 }
 
-/// What is told of a packet is what was read from here on.
-fn same(told: &Object, read: &Reading, from: usize, capture: &[u8]) {
-    let numbers = ["answer", "used", "packet", "command"].map(|key| number(&told[key]));
-    let command = read.command.map_or(0, |command| command.number());
-    assert_eq!(numbers, [read.answer.into(), read.used, read.packet.into(), command.into()]);
-    let data = read.command.map(|_| json!(hex(&read.data)));
-    assert_eq!(told["data"], data.unwrap_or(Value::Null));
-    assert_eq!(told["fields"], read.command.map_or(json!({}), fields));
-    assert_eq!(told["reason"].is_null(), read.answer == 0, "{told:?}");
-    assert!(told["name"].is_null() || read.answer == 0, "{told:?}");
-    let Some(start) = told["at"].as_u64().map(|at| at as usize) else { return };
-    assert_eq!(number(&told["garbage"]), start - from);
-    let end = if read.used == 0 { capture.len() } else { from + read.used };
-    assert_eq!(told["bytes"], hex(&capture[start..end]));
-    if let Some(place) = told["place"].as_u64() {
-        assert!((start..end).contains(&(place as usize)), "{told:?}");
-    }
+fn carried(command: Command, data: Vec<u8>) -> Carried {
+    let keys = json!({ "fields": fields(command) });
+    Carried { number: command.number().into(), data, keys }
 }
 
 /// The fields of a command by the paper's names.
@@ -156,31 +121,16 @@ fn fields(command: Command) -> Value {
     }
 }
 
-/// A command of any values is written, or refused with exit status 2, as the independent codec says.
+/// A command of any values is written, or refused, as the independent codec says.
 #[test]
 fn any_command() {
     let mut met = [0; 2];
     seeded(27_000..27_400, |rng| {
         let (number, command) = (rng.gen(), command(rng));
-        let line = spelt(number, command);
-        let words: Vec<&str> = line.split_whitespace().collect();
-        let ran = run::words_in(Path::new("."), &words);
-        let expected = write(number, command);
-        met[usize::from(expected.is_some())] += 1;
-        let Some(packet) = expected else {
-            assert_eq!((ran.status, ran.out.as_str()), (2, ""), "{line}");
-            assert!(ran.err.contains(" is not good (answer 4: "), "{line}: {}", ran.err);
-            assert!(ran.err.contains("(source 000, section "), "{line}: {}", ran.err);
-            return;
-        };
-        assert_eq!((ran.status, ran.out), (0, hex(&packet) + "\n"), "{line}: {}", ran.err);
-        has(
-            &format!("{line} --json"),
-            json!({
-                "bytes": hex(&packet), "packet": number, "command": command.number(),
-                "data": hex(&command.data()), "fields": fields(command),
-            }),
-        );
+        let packet = write(number, command);
+        let packet = packet.map(|bytes| (number, bytes, carried(command, command.data())));
+        let good = written(&spelt(number, command), packet, &["(source 000, section "]);
+        met[usize::from(good)] += 1;
     });
     assert!(met[0] > 20 && met[1] > 100, "{met:?} show little");
 }

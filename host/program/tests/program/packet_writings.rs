@@ -58,6 +58,7 @@ fn commands() {
     writes("--number 1 init-ack --result=-5", "F0 81 FB 81 56 01 02 FB 0F");
     writes("watchdog", "F0 81 49 81 57 00 04 0F");
     writes("watchdog --number 240", "F0 81 70 81 56 81 A5 04 0F");
+    writes("watchdog --packet 240", "F0 81 70 81 56 81 A5 04 0F");
     writes("get-stimulation-mode --number 1", "F0 81 76 81 57 01 0A 0F");
     let mode = "F0 81 11 81 51 09 0B 00 02 0F";
     writes("get-stimulation-mode-ack --result 0 --stimulation-mode 2 --number 9", mode);
@@ -119,13 +120,8 @@ fn intervals() {
     }
 }
 
-/// Clap's first line for a value that an argument does not take.
 fn invalid(words: &str, value: &str, argument: &str, why: &str) {
-    let line = format!("packet write rehastim2 {words}");
-    let ran = run::line(&line);
-    assert_eq!((ran.status, ran.out.as_str()), (2, ""), "{line}");
-    let message = format!("error: Invalid value '{value}' for '{argument}': {why}");
-    assert_eq!(ran.err.lines().next(), Some(message.as_str()), "{line}");
+    run::invalid(&format!("packet write rehastim2 {words}"), value, argument, why);
 }
 
 #[test]

@@ -29,6 +29,9 @@ fn closed_before() {
         "packet read rehastim2 F0",
         "packet read rehastim2 F0 --all",
         "packet write rehastim2 watchdog",
+        "packet read rehamove3 F0",
+        "packet read rehamove3 F0 --all",
+        "packet write rehamove3 ll-stop",
     ] {
         unread(&folder, line);
     }
@@ -44,6 +47,10 @@ fn files_are_written() {
         ("replay s --calls --plot p.svg", &["p.svg"]),
         ("replay s --json --events e.csv", &["e.csv"]),
         ("lesson ring --plot p.svg", &["p.svg"]),
+        ("lesson charge --plot p.svg", &["p.svg"]),
+        ("packet write rehamove3 ll-channel-config --channel 0 --execute --point 1:0 --plot p.svg", {
+            &["p.svg"]
+        }),
         ("demo", &["demo.svg", "demo-lax.trace", "demo-strict.trace"]),
     ] {
         assert_eq!(folder.line(line).status, 0, "{line}");

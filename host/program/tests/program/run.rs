@@ -76,3 +76,11 @@ pub fn bad(words: &str, message: &str) {
     assert_eq!((ran.status, ran.out.as_str()), (2, ""), "{words}");
     assert_eq!(ran.err.strip_suffix('\n'), Some(message), "{words}");
 }
+
+/// The line gives an argument a value that it does not take: what is said first.
+pub fn invalid(words: &str, value: &str, argument: &str, why: &str) {
+    let ran = line(words);
+    assert_eq!((ran.status, ran.out.as_str()), (2, ""), "{words}");
+    let message = format!("error: Invalid value '{value}' for '{argument}': {why}");
+    assert_eq!(ran.err.lines().next(), Some(message.as_str()), "{words}");
+}

@@ -7,6 +7,7 @@ mod field;
 mod more;
 mod names;
 mod plot;
+pub mod point;
 pub mod points;
 mod read;
 mod write;

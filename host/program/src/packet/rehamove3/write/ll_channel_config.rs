@@ -1,9 +1,9 @@
 //! `yarrowbell packet write rehamove3 ll-channel-config`
 
-use super::point;
 use crate::packet::field::Field as _;
 use crate::packet::rehamove3::amounts::milliamps;
 use crate::packet::rehamove3::field::{coded, Field};
+use crate::packet::rehamove3::point;
 use crate::packet::{argument, named};
 use crate::write::argument::Argument;
 use clap::{ArgGroup, Args};

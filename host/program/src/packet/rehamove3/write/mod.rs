@@ -5,7 +5,6 @@ mod balance;
 mod ll_channel_config;
 mod ll_channel_config_ack;
 mod ll_init;
-mod point;
 
 use super::field::Field;
 use super::{plot, Rehamove3};
@@ -82,11 +81,12 @@ impl Write {
         written.map(|_| ()).map_err(|why| self.fault(why).into())
     }
 
-    /// What is said of the argument at fault.
+    /// What is said of the argument at fault: of one that gives a value that is not good before the
+    /// net charge of all points.
     fn fault(&self, why: NotWritten) -> BadInput {
         let number = argument::of("--packet", Field::PacketNumber, self.packet);
         let mut arguments = [number].into_iter().chain(self.command.arguments());
-        if let Some(fault) = arguments.find_map(|argument| argument.fault(why)) {
+        if let Some(fault) = arguments.find_map(|argument| argument.fault(NotWritten::NotGood)) {
             return fault;
         }
         match (&self.command, why) {

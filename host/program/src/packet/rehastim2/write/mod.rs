@@ -28,7 +28,7 @@ pub struct Write {
     command: Words,
 
     /// Packet number, 0 to 255: the PC counts it up, and a response echoes it
-    #[arg(long, value_name = "N", default_value_t = 0, global = true)]
+    #[arg(long, visible_alias = "packet", value_name = "N", default_value_t = 0, global = true)]
     #[arg(value_parser = number::ruled::<u8>(Field::PacketNumber.rule()), allow_negative_numbers = true)]
     number: u8,
 

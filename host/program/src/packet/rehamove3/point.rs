@@ -1,9 +1,9 @@
 //! A point of a pulse, as a word of the command line.
 
+use super::amounts::milliamps;
+use super::field::{coded, Field};
 use crate::number;
 use crate::packet::field::Field as _;
-use crate::packet::rehamove3::amounts::milliamps;
-use crate::packet::rehamove3::field::{coded, Field};
 use thiserror::Error;
 use yarrowbell::rehamove3::Point;
 
@@ -41,9 +41,10 @@ fn halves(word: &str) -> Result<i16, NotPoint> {
     let amount = number::millionths(number).ok_or_else(outside)?;
     let signed = |halves| i16::try_from(halves).map(|halves| sign * halves).map_err(|_| outside());
     let (near, far) = (signed(amount / STEP)?, signed(amount.div_ceil(STEP))?);
-    if near != far {
-        let (below, above) = (near.min(far), near.max(far));
-        return Err(NotPoint::Between { word: word.to_owned(), below, above });
+    let (below, above) = (near.min(far), near.max(far));
+    match [below, above].map(|halves| Field::Current.broken(coded(halves))) {
+        _ if below == above => Ok(near),
+        [None, None] => Err(NotPoint::Between { word: word.to_owned(), below, above }),
+        _ => Err(outside()),
     }
-    Ok(near)
 }
