@@ -1,9 +1,10 @@
 -- What holds of each message: that its command is carried or another, and what holds of the message of every number. Assumes nothing.
-use Prim.Native.Nat.{ℕ, _/_, _%_}
+use Prim.Native.Nat.{ℕ, _/_, _%_, _≤_}
 use mathlib.Core.Path.{_≡_, refl, sym}
 use mathlib.Core.Logic.{_⊎_, inl, inr}
 use mathlib.Core.Bool.{Bool, true, false, cond}
 use mathlib.Core.List.{List}
+use native.Mathlib.Omega.{arith}
 use lib.Dec.{eqb}
 use lib.ListN.{getD}
 use borrow.Author.Tests.{eqb-true}
@@ -63,3 +64,18 @@ module _ (number : ℕ) (d : List ℕ) where
       (λ _ e. cc)
       (λ _ e. cc)
       (λ _. refl)
+
+  -- THEOREM. A message that is read has at most sixteen points.
+  pub few-points : messageOf number d .pulse .number ≤ 16
+  few-points =
+      each-read
+      number
+      d
+      (λ m. m .pulse .number ≤ 16)
+      (λ _. omega arith)
+      (λ _. omega arith)
+      (λ _. omega arith)
+      (λ _. omega arith)
+      (λ _. omega arith)
+      (λ _. omega arith)
+      (omega arith)
