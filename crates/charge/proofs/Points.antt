@@ -36,7 +36,7 @@ good-tests p =
     spared (leb (p .duration) 4095) (leb (p .code) 600) (withinLimit p)
     (λ e. let h = leb-true (p .code) 560 (both (leb 40 (p .code)) (leb (p .code) 560) e .1) in le-leb (p .code) 600 (omega arith))
 
-paper-of-good : (p : Point) → pointGood p ≡ true → ofPaper p ≡ true
+pub paper-of-good : (p : Point) → pointGood p ≡ true → ofPaper p ≡ true
 unfolding pointGood
 paper-of-good p e = both (ofPaper p) (withinLimit p) e .0
 

@@ -54,6 +54,9 @@ unfoldable pub isZero : ℤ → Bool
 isZero (pos n) = eqb n 0
 isZero (negsuc n) = false
 
--- of a pulse that is not good no charge is told
+-- of a point or a pulse that is not good no charge is told
+unfoldable pub weighedPoint : Point → Weighed
+weighedPoint p = record { good = pointGood p; charge = cond (pointGood p) (partOf p) (pos 0) }
+
 unfoldable pub weighed : Pulse → Weighed
 weighed p = record { good = pulseGood p; charge = cond (pulseGood p) (chargeOf p) (pos 0) }

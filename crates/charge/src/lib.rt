@@ -2,7 +2,7 @@
 ghost use mathlib.Core.Bool.{true, cond, _&&_};
 ghost use mathlib.Core.Path.{_≡_};
 ghost use lib.ListN.{take, drop};
-ghost use Rattle.charge.specs.Charge.{ofPaper, pointGood, isZeroPoint, all, pulseGood, partOf, netOf, weighed};
+ghost use Rattle.charge.specs.Charge.{ofPaper, pointGood, isZeroPoint, all, pulseGood, partOf, netOf, weighedPoint, weighed};
 
 // A duration in microseconds, and a current as twice the milliamps plus 300.
 #[repr(C)]
@@ -73,6 +73,23 @@ fn part(p: Point) -> i32
     ensures { λ r. ⌜ r ≡ partOf p ⌝ }
 {
     p.duration as i32 * (p.code as i32 - 300)
+}
+
+// Whether a point's values are good, and its part of the net charge, 0 where they are not.
+pub fn weigh_point(p: Point) -> Weighed
+    ensures { λ r. ⌜ r ≡ weighedPoint p ⌝ }
+{
+    if is_good_point(p) {
+        Weighed {
+            good: true,
+            charge: part(p),
+        }
+    } else {
+        Weighed {
+            good: false,
+            charge: 0,
+        }
+    }
 }
 
 // Of sixteen points, at most 19,656,000 in size.
