@@ -1,44 +1,26 @@
 -- The data of each number: what is right of it, in the words of the code. Assumes nothing.
 use Prim.Native.Nat.{ℕ, zero, suc, _+_, _/_, _%_, _≤_, _<_}
 use mathlib.Core.Path.{_≡_, refl, sym, ap, _∙_}
-use mathlib.Core.Bool.{Bool, true, false, cond, _&&_, and-true, and-false}
+use mathlib.Core.Bool.{Bool, true, false, _&&_, and-true}
 use mathlib.Core.List.{List}
 use native.Mathlib.Omega.{arith}
 use lib.Dec.{eqb, leb, eqb·zero-suc, eqb·suc-zero, eqb·suc-suc}
 use lib.ListN.{length, getD, drop, take}
 use lib.Seq.{length-take-le}
 use lib.IntN.{ℤ, pos}
-use borrow.Author.Tests.{eqb-true, eqb-false, eq-eqb, ne-eqb, le-leb, lt-leb}
+use borrow.Author.Tests.{le-leb, lt-leb}
 use Rattle.charge.specs.declared.Point.{Point}
-use Rattle.charge.specs.declared.Weighed.{Weighed}
-use Rattle.charge.specs.Charge.{isZeroPoint, all, netOf, chargeOf, pulseGood, weighed}
-use Rattle.commands3.specs.declared.Message.{Message}
+use Rattle.charge.specs.Charge.{isZeroPoint, all, netOf}
 use Rattle.commands3.specs.declared.Command.the-variants.{LlInit, LlInitAck, LlChannelConfig, LlChannelConfigAck, LlStop, LlStopAck}
 use Rattle.commands3.specs.Points.{pointsIn}
-use Rattle.commands3.specs.Commands.{goodResult, goodElectrode, isNoPulse, alone, dataOf, isOther, configIn, messageOf, reservedClear, right}
+use Rattle.commands3.specs.Commands.{goodResult, goodElectrode, isNoPulse, alone, dataOf, configIn, messageOf, reservedClear, right}
 use Rattle.commands3.specs.Contents.{packetIn, headIn}
 use Rattle.commands3.proofs.Points.{length-bytes, length-points}
 use Rattle.decode3.specs.declared.Decoded.{Decoded}
 use Rattle.points3.specs.declared.PulseRead.{PulseRead}
-use Rattle.points3.specs.Pulses.{sizeOf, pulseRead}
+use Rattle.points3.specs.Pulses.{sizeOf, pulseRight, pulseRead}
 use Rattle.decode3.specs.Decoded.{notTaken, decoded}
 use Rattle.decode3.specs.Parts.{told, dataDecoded}
-
--- ---- sizes
-
--- a channel config asks for four bytes per point, and one
-config-size : (d : List ℕ) → length (dataOf (configIn d)) ≡ sizeOf (getD d 0 0)
-config-size d =
-    let number : ℕ = getD d 0 0 % 16 + 1 in
-    let points : List Point = pointsIn 16 number (drop 1 d) in
-    let l : length (take number points) ≡ number = length-take-le number points (omega (arith, length-points 16 number (drop 1 d))) in
-    omega (arith, length-bytes (take number points), l)
-
--- a carried command whose data is too short or too long is refused
-wrong-size : (packet number : ℕ) (d : List ℕ) → isOther (messageOf number d .command) ≡ false → (length (dataOf (messageOf number d)) ≡ length d → ⊥)
-    → notTaken ≡ dataDecoded packet number d
-unfolding dataDecoded told right
-wrong-size packet number d e n = rw (e, ne-eqb _ _ n)
 
 -- ---- commands without points
 
@@ -76,36 +58,34 @@ module _ (packet : ℕ) (d : List ℕ) where
 
 -- ---- a channel config
 
-config-right : (d : List ℕ) → getD d 0 0 < 256 → length d ≡ sizeOf (getD d 0 0) → (reservedClear 2 d && pulseGood (configIn d .pulse)) ≡ right 2 d
-unfolding right messageOf reservedClear
-config-right d b h =
-    let size : eqb (length (dataOf (configIn d))) (length d) ≡ true = eq-eqb (length (dataOf (configIn d))) (length d) (config-size d ∙ sym h) in
-    rw (size, le-leb (getD d 0 0 / 128) 1 (omega arith), le-leb (getD d 0 0 / 32 % 4) 3 (omega arith))
+-- four bytes per point, and one
+config-size : (d : List ℕ) → length (dataOf (configIn d)) ≡ sizeOf (getD d 0 0)
+config-size d =
+    let number : ℕ = getD d 0 0 % 16 + 1 in
+    let points : List Point = pointsIn 16 number (drop 1 d) in
+    let l : length (take number points) ≡ number = length-take-le number points (omega (arith, length-points 16 number (drop 1 d))) in
+    omega (arith, length-bytes (take number points), l)
 
--- what is told of a charge where the pulse is not good does not matter
-bad-charge : (clear good : Bool) (packet : ℕ) (m : Message) (z : ℤ) → told (clear && good) packet m (cond good z (pos 0)) ≡ told (clear && good) packet m z
-unfolding told
-bad-charge clear true packet m z = refl
-bad-charge clear false packet m z = rw (and-false clear)
+config-right : (d : List ℕ) → getD d 0 0 < 256 → pulseRight d ≡ right 2 d
+unfolding pulseRight messageOf right
+config-right d b =
+    let size : eqb (length (dataOf (configIn d))) (length d) ≡ eqb (length d) (sizeOf (getD d 0 0)) =
+    turned (length (dataOf (configIn d))) (length d) ∙ ap (eqb (length d)) (config-size d) in
+    rw (size, le-leb (getD d 0 0 / 128) 1 (omega arith), le-leb (getD d 0 0 / 32 % 4) 3 (omega arith))
 
 module _ (packet : ℕ) (d : List ℕ) where
   -- what is told of a pulse that is read
-  abbrev weighedOf : PulseRead → Decoded
-  weighedOf read =
-      told (read .right && weighed (read .pulse) .good) packet (record { command = configIn d .command; pulse = read .pulse }) (weighed (read .pulse) .charge)
+  abbrev toldOf : PulseRead → Decoded
+  toldOf read = told (read .right) packet (record { command = configIn d .command; pulse = read .pulse }) (read .charge)
 
-  by-size : (t : Bool) → eqb (length d) (sizeOf (getD d 0 0)) ≡ t → getD d 0 0 < 256 → weighedOf (pulseRead d) ≡ dataDecoded packet 2 d
-  unfolding pulseRead dataDecoded messageOf weighed told
-  by-size true f b =
-      rw f
-      (bad-charge (reservedClear 2 d) (pulseGood (configIn d .pulse)) packet (configIn d) (chargeOf (configIn d .pulse))
-      ∙ ap (λ (t : Bool). told t packet (configIn d) (chargeOf (configIn d .pulse))) (config-right d b (eqb-true _ _ f)))
-  by-size false f b = rw f (wrong-size packet 2 d refl (λ s. eqb-false _ _ f (sym s ∙ config-size d)))
+  by-test : (t : Bool) → pulseRight d ≡ t → getD d 0 0 < 256 → toldOf (pulseRead d) ≡ dataDecoded packet 2 d
+  unfolding pulseRead dataDecoded messageOf told
+  by-test true e b = rw (e, sym (config-right d b) ∙ e)
+  by-test false e b = rw (e, sym (config-right d b) ∙ e)
 
-  pub config-decoded : (first : ℕ) → first ≡ getD d 0 0 → first < 256 → (read : PulseRead) → read ≡ pulseRead d → (w : Weighed) → w ≡ weighed (read .pulse)
-      → (charge : ℤ) → charge ≡ w .charge
-      → told (read .right && w .good) packet (record { command = LlChannelConfig (first / 128) (first / 32 % 4); pulse = read .pulse }) charge ≡ dataDecoded packet 2 d
-  config-decoded first e b read r w g charge z = rw (z, g, e) (ap weighedOf r ∙ by-size (eqb (length d) (sizeOf (getD d 0 0))) refl (rw e at b))
+  pub config-decoded : (first : ℕ) → first ≡ getD d 0 0 → first < 256 → (read : PulseRead) → read ≡ pulseRead d → (charge : ℤ) → charge ≡ read .charge
+      → told (read .right) packet (record { command = LlChannelConfig (first / 128) (first / 32 % 4); pulse = read .pulse }) charge ≡ dataDecoded packet 2 d
+  config-decoded first e b read r charge z = rw (z, e) (ap toldOf r ∙ by-test (pulseRight d) refl (rw e at b))
 
 -- ---- packet number and command number
 

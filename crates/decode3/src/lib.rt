@@ -69,13 +69,12 @@ fn config_in(packet: u8, first: u8, d: &[u8]) -> Decoded
 {
     let read = points3::pulse_in(d);
     let pulse = read.pulse;
-    let weighed = charge::weigh(pulse);
     let command = Command::LlChannelConfig {
         execution: first / 128,
         channel: first / 32 % 4,
     };
     let message = Message { command, pulse };
-    tell(read.right & weighed.good, packet, message, weighed.charge)
+    tell(read.right, packet, message, read.charge)
 }
 
 fn data_in(packet: u8, number: u16, d: &[u8]) -> Decoded

@@ -4,19 +4,24 @@ use charge::Pulse;
 use commands3::NO_PULSE;
 ghost use mathlib.Core.Path.{_≡_};
 ghost use Prim.Native.Nat.{_+_, _*_, _≤_};
-ghost use lib.ListN.{length};
+ghost use lib.ListN.{length, drop};
+ghost use Rattle.commands3.specs.Points.{wordIn};
 ghost use Rattle.points3.specs.Pulses.{pointOf, pointsRead, pulseRead};
 
-// Whether the data has as many bytes as its points ask for, and no reserved bit set; and the pulse, zeros where bytes are missing or left over.
+// Whether the data is a good pulse's, with no byte too few or too many and no reserved bit set; and that pulse with its net charge, all zero
+// where it is not.
 pub struct PulseRead {
     pub right: bool,
     pub pulse: Pulse,
+    pub charge: i32,
 }
 
-// Sixteen points, zeros behind those that are read, and whether their reserved bits are clear.
+// Whether the points that are read are good, with no reserved bit set; the points, zeros behind them; and what the good ones add to the net
+// charge.
 struct PointsRead {
-    clear: bool,
+    right: bool,
     points: [Point; 16],
+    charge: i32,
 }
 
 // Four bytes as a number, the high one first.
@@ -24,6 +29,14 @@ fn word(a: u8, b: u8, c: u8, d: u8) -> u32
     ensures { λ r. ⌜ r ≡ ((a * 256 + b) * 256 + c) * 256 + d ⌝ }
 {
     ((a as u32 * 256 + b as u32) * 256 + c as u32) * 256 + d as u32
+}
+
+// The 32 bits of the point at a place.
+fn word_at(d: &[u8], at: usize) -> u32
+    requires { ⌜ at + 4 ≤ length (now d) ⌝ }
+    ensures { λ r. ⌜ r ≡ wordIn (drop at (now (d .entry))) ⌝ }
+{
+    word(d[at], d[at + 1], d[at + 2], d[at + 3])
 }
 
 fn point_of(w: u32) -> Point
@@ -41,16 +54,23 @@ fn points_in(number: usize, d: &[u8]) -> PointsRead
 {
     let none = NO_PULSE;
     let mut points = none.points;
-    let mut clear = true;
+    let mut right = true;
+    let mut sum: i32 = 0;
     let mut i = 0;
     while i < number {
-        let at = 4 * i;
-        let w = word(d[at], d[at + 1], d[at + 2], d[at + 3]);
-        points[i] = point_of(w);
-        clear = clear & (w % 1024 == 0);
+        let w = word_at(d, 4 * i);
+        let p = point_of(w);
+        let weighed = charge::weigh_point(p);
+        points[i] = p;
+        right = right & ((w % 1024 == 0) & weighed.good);
+        sum += weighed.charge;
         i += 1;
     }
-    PointsRead { clear, points }
+    PointsRead {
+        right,
+        points,
+        charge: sum,
+    }
 }
 
 // The first byte tells how many points stand behind it.
@@ -61,18 +81,22 @@ pub fn pulse_in(d: &[u8]) -> PulseRead
     let number = (first % 16) as usize + 1;
     if d.len() == 4 * number + 1 {
         let read = points_in(number, &d[1..]);
-        let points = read.points;
-        let pulse = Pulse {
-            number: number as u16,
-            points,
-        };
-        return PulseRead {
-            right: (first / 16 % 2 == 0) & read.clear,
-            pulse,
-        };
+        if (first / 16 % 2 == 0) & read.right {
+            let points = read.points;
+            let pulse = Pulse {
+                number: number as u16,
+                points,
+            };
+            return PulseRead {
+                right: true,
+                pulse,
+                charge: read.charge,
+            };
+        }
     }
     PulseRead {
         right: false,
         pulse: NO_PULSE,
+        charge: 0,
     }
 }

@@ -1,29 +1,20 @@
 -- `points3::pulse_in` meets its contract. Assumes nothing.
-use Prim.Native.Nat.{ℕ, _+_, _-_, _/_, _%_}
+use Prim.Native.Nat.{ℕ, _-_}
 use mathlib.Core.Path.{_≡_, ap, _∙_}
-use mathlib.Core.Bool.{false, _&&_}
 use mathlib.Core.List.{List}
 use native.Mathlib.Omega.{arith}
-use lib.Dec.{eqb}
-use lib.ListN.{length, getD, drop, length-drop}
+use lib.ListN.{length, take, drop, length-drop}
 use lib.Seq.{take-all}
+use mir.Syntax.{w32}
+use mir.Val.{toZ, ofZ}
+use Rattle.points3.specs.Pulses.{pointsRead}
+use Rattle.points3.proofs.GoodPulse.{right-points, wrong-points, wrong-size}
 use borrow.Author.Needs.{needs}
-use borrow.Author.Tests.{eq-eqb, ne-eqb}
-use Rattle.commands3.specs.Commands.{noPulse, reservedClear}
-use Rattle.points3.specs.declared.PointsRead.{PointsRead}
-use Rattle.points3.specs.Pulses.{pointsRead, sizeOf, pulseRead}
 use Rattle.points3.proofs.pulse_in.Statement.{statement}
 use Rattle.points3.proofs.pulse_in.Tie as tie
 
-module _ (d : List ℕ) (first : ℕ) (e : first ≡ getD d 0 0) where
-  right-size : length d ≡ sizeOf first → (read : PointsRead) → read ≡ pointsRead (first % 16 + 1) (drop 1 d)
-      → record { right = eqb (first / 16 % 2) 0 && read .clear; pulse = record { number = first % 16 + 1; points = read .points } } ≡ pulseRead d
-  unfolding pulseRead pointsRead reservedClear
-  right-size h read r = rw (r, e, eq-eqb (length d) (sizeOf (getD d 0 0)) (rw e at h))
-
-  wrong-size : (length d ≡ sizeOf first → ⊥) → record { right = false; pulse = noPulse } ≡ pulseRead d
-  unfolding pulseRead
-  wrong-size n = rw (ne-eqb (length d) (sizeOf (getD d 0 0)) (rw e at n))
+behind : (d : List ℕ) → take (length d - 1) (drop 1 d) ≡ drop 1 d
+behind d = take-all (length d - 1) (drop 1 d) (rw length-drop (omega arith))
 
 byte-at-requires : tie.Need-byte-at-requires
 byte-at-requires c κs = search needs
@@ -52,18 +43,25 @@ part-points-in-end c = search needs
 points-in-requires : tie.Need-points-in-requires
 points-in-requires c κs = search needs
 
-cast-t16 : tie.Need-cast-t16
-cast-t16 c = search needs
+cast-t20 : tie.Need-cast-t20
+cast-t20 c = search needs
 
 returns : tie.Need-returns
 returns c =
-    let d = c .before .before .before .before .before .before .before .args .d .now in
-    let b = c .before .before .before .before .before .byte-at in
-    right-size d _ (b .ensures) (c .before .before .before .before .if1 .taken) _
-    (c .before .before .points-in .ensures ∙ ap (pointsRead (b .result % 16 + 1)) (take-all (length d - 1) (drop 1 d) (rw length-drop (omega arith))))
+    let a = c .before .before .before .before .before .before .before .before .before .args in
+    let q = c .before .before .before .before .points-in in
+    let z : toZ w32 (ofZ w32 (q .result .charge)) ≡ q .result .charge = search needs in
+    right-points (a .d .now) _ (c .before .before .before .before .before .before .before .byte-at .ensures)
+    (c .before .before .before .before .before .before .if1 .taken) _ (q .ensures ∙ ap (pointsRead _) (behind (a .d .now))) (c .before .before .if2 .taken) _ z
 
 returns-2 : tie.Need-returns-2
-returns-2 c = wrong-size (c .before .before .before .args .d .now) _ (c .before .byte-at .ensures) (c .if1 .left)
+returns-2 c =
+    let a = c .before .before .before .before .before .before .before .args in
+    wrong-points (a .d .now) _ (c .before .before .before .before .before .byte-at .ensures) (c .before .before .before .before .if1 .taken) _
+    (c .before .before .points-in .ensures ∙ ap (pointsRead _) (behind (a .d .now))) (c .if2 .left)
+
+returns-3 : tie.Need-returns-3
+returns-3 c = wrong-size (c .before .before .before .args .d .now) _ (c .before .byte-at .ensures) (c .if1 .left)
 
 pub pulse-in-spec : {M : Type 1} → statement M
 pulse-in-spec =
@@ -78,6 +76,7 @@ pulse-in-spec =
     part-points-in-start
     part-points-in-end
     points-in-requires
-    cast-t16
+    cast-t20
     returns
-    returns-2)
+    returns-2
+    returns-3)
