@@ -46,10 +46,11 @@ pub fn pulse(rng: &mut SmallRng) -> Pulse {
     points.shuffle(rng);
     let mut pulse = Pulse::of_points(&points);
     if rng.gen_ratio(1, 16) {
-        match rng.gen_range(0..3) {
+        match rng.gen_range(0..4) {
             0 => pulse.number = [0, 17, 255, 256, 65_535][rng.gen_range(0..5)],
             1 => pulse.number = rng.gen_range(1..=16),
-            _ => pulse.points[rng.gen_range(0..16)] = Point { duration: 0, code: code(rng) },
+            2 => pulse.points[rng.gen_range(0..16)] = Point { duration: 0, code: code(rng) },
+            _ => pulse.points[rng.gen_range(0..16)] = Point { duration: duration(rng), code: 0 },
         }
     }
     pulse
@@ -96,15 +97,20 @@ fn code(rng: &mut SmallRng) -> u16 {
     edge_or(rng, &CODES, 40..=560)
 }
 
-/// A whole packet: of a command that is carried, one time in eight with a bit of its data turned, or of
-/// any number with any data.
+/// A whole packet: of a command that is carried, one time in eight with a byte of its data too many, too
+/// few or changed, or of any number with any data.
 pub fn packet(rng: &mut SmallRng) -> Vec<u8> {
     let (packet, command) = (rng.gen_range(0..64), command(rng));
     if rng.gen_ratio(2, 3) {
         let mut data = command.data();
-        if rng.gen_ratio(1, 8) && !data.is_empty() {
-            let place = rng.gen_range(0..data.len());
-            data[place] ^= 1 << rng.gen_range(0..8);
+        match rng.gen_range(0..24) {
+            0 => data.push(byte(rng, 5)),
+            1 => drop(data.pop()),
+            2 if !data.is_empty() => {
+                let place = rng.gen_range(0..data.len());
+                data[place] ^= 1 << rng.gen_range(0..8);
+            }
+            _ => {}
         }
         return compose(packet, command.number(), &data);
     }

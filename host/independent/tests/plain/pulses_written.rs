@@ -4,7 +4,7 @@ use crate::counted::counted;
 use crate::random_pulses::command;
 use independent::plain::codec::Wrote;
 use independent::plain::rehamove3 as fast;
-use independent::rehamove3::{self as slow, Command};
+use independent::rehamove3::{self as slow, ChannelConfig, Command, Point, Pulse};
 use rand::Rng;
 
 /// Writes with both to an output of `room` bytes.
@@ -47,6 +47,19 @@ fn every_value_written() {
             ] {
                 write(packet, command, 140);
             }
+        }
+    }
+}
+
+/// Each number of points that can be told, whatever the points are.
+#[test]
+fn every_number_of_points() {
+    for points in [[Point { duration: 10, code: 300 }; 16], [Point::default(); 16]] {
+        for number in 0..=u16::MAX {
+            let pulse = Pulse { number, points };
+            let config = ChannelConfig { execution: 1, channel: 3, pulse };
+            let wrote = write(1, Command::LlChannelConfig(config), 140);
+            assert_eq!(wrote.answer == 0, number == 16 && points[0].code == 300);
         }
     }
 }

@@ -90,15 +90,16 @@ fn without_charge() {
     }
 }
 
-/// Another number of points than 1 to 16.
+/// Another number of points than 1 to 16, of which any are given.
 #[test]
 fn wrong_numbers_of_points() {
-    let pulse = Pulse::of_points(&[Point { duration: 10, code: 300 }; 16]);
-    for number in 0..=u16::MAX {
-        let pulse = Pulse { number, ..pulse };
-        let good = number == 16;
-        assert_eq!(write(1, config(1, pulse)).is_some(), good, "{number}");
-        assert_eq!(pulse.charge().is_some(), good, "{number}");
+    for points in [[Point { duration: 10, code: 300 }; 16], [Point::default(); 16]] {
+        for number in 0..=u16::MAX {
+            let pulse = Pulse { number, points };
+            let good = number == 16 && points[0].code == 300;
+            assert_eq!(write(1, config(1, pulse)).is_some(), good, "{number}");
+            assert_eq!(pulse.charge().is_some(), good, "{number}");
+        }
     }
 }
 
