@@ -31,16 +31,14 @@ Report the net charge of a pulse as a signed sum in half milliamp microseconds o
 points, and refuse to write one whose net charge is not zero, also with 4.",
     proved: &[
         Theorem {
-            name: "write-packet-spec",
-            file: "crates/writer3/proofs/write_packet/Proof.antt",
-            says:
-                "a pulse whose net charge is not zero is answered 4, and no byte of it is written.",
+            name: "no-charge",
+            file: "crates/demands3/proofs/NoCharge.antt",
+            says: "whatever is written has no net charge; a pulse that has one is answered 4.",
         },
         Theorem {
             name: "bounded",
             file: "crates/charge/proofs/Theorems.antt",
-            says:
-                "no pulse has a net charge that 32 bits cannot hold, so none is zero by overflow.",
+            says: "32 bits hold every net charge, so that none becomes zero by overflow.",
         },
         Theorem {
             name: "order-free",

@@ -186,7 +186,7 @@ fn the_theorems() {
         ("ring", ["demand1", "calls-keep", "ring-holds-tail"]),
         ("fields", ["demand2", "split-is-row", "claim"]),
         ("limits", ["demand3", "always-zeros", "quiet-at-rest"]),
-        ("charge", ["write-packet-spec", "bounded", "order-free"]),
+        ("charge", ["no-charge", "bounded", "order-free"]),
     ];
     for (lesson_name, theorems) in wanted {
         let printed = lesson(lesson_name);

@@ -11,12 +11,12 @@ fn page(name: &str) -> String {
 
 #[test]
 fn at_the_bench() {
-    examples_are_real("BENCH.md", 6);
+    examples_are_real("BENCH.md", 20);
 }
 
 #[test]
 fn teaching() {
-    examples_are_real("TEACHING.md", 12);
+    examples_are_real("TEACHING.md", 20);
 }
 
 /// README's picture is the demo's.
@@ -28,7 +28,7 @@ fn the_picture() {
 }
 
 /// A line `$ cat FILE` is followed by the file, which is written here. A line `$ yarrowbell ..` is
-/// followed by what the program prints.
+/// followed by what the program prints, or by its exit status and what it says on standard error.
 fn examples_are_real(name: &str, least: usize) {
     let folder = Folder::new(name);
     let text = page(name);
@@ -70,12 +70,14 @@ fn examples(text: &str) -> Vec<(&str, Vec<&str>)> {
 /// The program prints these lines one after the other, empty ones left out on both sides. Where `...`
 /// stands it prints others, and behind the last line it may.
 fn printed(folder: &Folder, words: &str, lines: &[&str]) {
-    let ran = folder.line(words);
-    assert_eq!((ran.status, ran.err.as_str()), (0, ""), "{words}");
+    let (ran, refused) = (folder.line(words), lines.first() == Some(&"(exit status 2)"));
+    let (status, told, silent) =
+        if refused { (2, &ran.err, &ran.out) } else { (0, &ran.out, &ran.err) };
+    assert_eq!((ran.status, silent.as_str()), (status, ""), "{words}");
     let same = |one: &str, other: &str| one.split_whitespace().eq(other.split_whitespace());
-    let mut rest = ran.out.lines().filter(|line| !line.is_empty());
+    let mut rest = told.lines().filter(|line| !line.is_empty());
     let mut others = false;
-    for line in lines {
+    for line in lines.iter().skip(usize::from(refused)) {
         if *line == "..." {
             others = true;
             continue;
@@ -85,7 +87,7 @@ fn printed(folder: &Folder, words: &str, lines: &[&str]) {
         } else {
             rest.next().is_some_and(|other| same(line, other))
         };
-        assert!(found, "{words}: {line:?} does not stand so in\n{}", ran.out);
+        assert!(found, "{words}: {line:?} does not stand so in\n{told}");
         others = false;
     }
 }
