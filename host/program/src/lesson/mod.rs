@@ -44,7 +44,7 @@ Example:
 Example:
   yarrowbell lesson limits")]
     Limits(Words),
-    /// A pulse whose currents are equal and opposite leaves charge behind, for they flow unequally long
+    /// A pulse of equal and opposite currents leaves charge behind, for one flows longer
     #[command(after_help = "\
 Example:
   yarrowbell lesson charge")]

@@ -24,7 +24,7 @@ pub fn once<F: Field>(values: &[Value<F>]) -> impl Iterator<Item = &Value<F>> {
 }
 
 /// Reserved bits are told if they are not as they should be.
-pub fn is_told<F: Field>(value: &Value<F>) -> bool {
+fn is_told<F: Field>(value: &Value<F>) -> bool {
     !value.field.is_reserved() || value.field.broken(value.number).is_some()
 }
 

@@ -1,7 +1,7 @@
 //! How the packets of a generation of devices are framed.
 
-/// Behind the start byte stand checksum and length, each of their bytes stuffed, and behind both packet
-/// number, command and data, of which only those bytes are stuffed that must be.
+/// Behind the start byte stand checksum and length, each of their bytes stuffed, and behind both
+/// packet number, command and data, of which only those bytes are stuffed that must be.
 pub struct Framing {
     pub checksum: Part,
     pub length: Part,
@@ -16,8 +16,8 @@ pub struct Framing {
     pub commands: &'static str,
 }
 
-/// A number that is always stuffed: how far behind the start it stands, and how many bytes it has before
-/// stuffing.
+/// A number that is always stuffed: how far behind the start it stands, and how many bytes it has
+/// before stuffing.
 #[derive(Clone, Copy)]
 pub struct Part {
     pub behind_start: usize,
@@ -39,8 +39,8 @@ impl Framing {
         1 + 2 * (self.checksum.size + self.length.size)
     }
 
-    /// As many bytes of packet number, command and data as a length can tell: what a packet with more
-    /// has in it nobody asks.
+    /// As many bytes of packet number, command and data as a length can tell: what a packet with
+    /// more has in it nobody asks.
     pub fn most_covered(&self) -> usize {
         match self.counted {
             Counted::Same => self.highest,

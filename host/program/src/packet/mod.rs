@@ -33,9 +33,9 @@ use std::process::ExitCode;
 
 /// Read packets of the RehaStim2 or the RehaMove3, or write one
 ///
-/// Their commands stand in packets: between a start byte and a stop byte, which are stuffed where they
-/// stand inside. The RehaStim2 speaks ScienceMode2 (source 000); the RehaMove3 (source 002) is told its
-/// pulses point by point.
+/// Their commands stand in packets: between a start byte and a stop byte, which are stuffed where
+/// they stand inside. The RehaStim2 speaks ScienceMode2 (source 000); the RehaMove3 (source 002) is
+/// sent its pulses point by point.
 #[derive(Args)]
 #[command(after_help = "\
 Examples:

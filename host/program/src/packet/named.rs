@@ -22,7 +22,7 @@ pub fn of<N: TryFrom<i32>>(field: impl Field) -> impl Fn(&str) -> Result<N, NotN
         let named = words().find(|(_, spelt)| spelt == word);
         let value = named.map_or_else(|| whole(word), |(value, _)| Some(value));
         value.and_then(|value| N::try_from(value).ok()).ok_or_else(|| {
-            let word = words().last().map_or_else(String::new, |(_, spelt)| spelt);
+            let word = words().next_back().map_or_else(String::new, |(_, spelt)| spelt);
             NotNamed { word, rule: field.rule() }
         })
     }

@@ -21,16 +21,16 @@ use yarrowbell::Answer;
 ///
 /// Prints each byte as it came and unstuffed, with what it is, the value of each field, checksum and
 /// length worked out, and the proved reader's answer; of a pulse each point, and the net charge. A
-/// packet that the reader refuses is shown as far as its bytes go, with the place at which it is refused
-/// and what would be right there.
+/// packet that the reader refuses is shown as far as its bytes go, with the place at which it is
+/// refused and what would be right there.
 #[derive(Args)]
 #[command(after_help = "\
 Garbage before a packet is passed over. F0 opens a packet unless 81 stands straight before it, and 0F
 ends one likewise; F0 inside an open packet drops that and opens a new one. Places are counted from 0,
 as source 000's tables count.
 
-A charge is current times duration: in half milliamp microseconds, two of which are one nanocoulomb. A
-pulse is read whatever its net charge.
+A charge is current times duration: in half milliamp microseconds, two of which are one nanocoulomb.
+A pulse is read whatever its net charge.
 
 Bytes in hex may have 0x before them, and spaces, line ends, a comma or a colon between them. In a
 file # begins a comment. A file is taken as the bytes themselves if it is no text: not UTF-8, or with

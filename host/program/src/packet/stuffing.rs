@@ -1,4 +1,4 @@
-//! Byte stuffing, the same for every generation (source 000, section 2.2, table 6; source 002, table 3).
+//! Byte stuffing, the same for each generation (source 000, table 6; source 002, table 3).
 
 pub const START: u8 = 0xF0;
 pub const STOP: u8 = 0x0F;

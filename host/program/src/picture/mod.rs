@@ -64,3 +64,6 @@ fn draw(area: &Area, panels: &[Panel], lanes: &[Lanes], common: &Common) -> Draw
 
 #[cfg(test)]
 mod tests;
+#[cfg(test)]
+#[path = "../../tests/program/well_formed.rs"]
+mod well_formed;

@@ -1,13 +1,10 @@
 //! What pictures say, and how large they are.
 
-#[path = "../../tests/program/well_formed.rs"]
-mod well_formed;
-
 use super::tint::TINTS;
 use super::{svg, Panel};
 use crate::course::{Decided, Event, Pulse, What};
+use crate::picture::well_formed::is_well_formed;
 use plotters::style::RGBColor;
-use well_formed::is_well_formed;
 use yarrowbell::{Answer, Cause, State};
 
 fn pulse(clock: u32, channel: u8, width: u16, current: u16) -> Event {

@@ -85,8 +85,8 @@ fn has_keys(told: &Object, keys: &Value) {
     }
 }
 
-/// A line is written as this packet of a command, or refused with exit status 2 and one of these words
-/// if it is none. Says which.
+/// A line is written as this packet of a command, or refused with exit status 2 and one of these
+/// words if it is none. Says which.
 pub fn written(line: &str, packet: Option<(u8, Vec<u8>, Carried)>, refusals: &[&str]) -> bool {
     let words: Vec<&str> = line.split_whitespace().collect();
     let ran = run::words(&words);

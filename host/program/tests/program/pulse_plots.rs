@@ -100,7 +100,7 @@ fn no_pulse() {
     assert_eq!((ran.status, ran.out.as_str()), (2, ""));
 }
 
-/// A picture of before is replaced whole; a file that the run reads, and what cannot be written, is not.
+/// A picture of before is replaced whole; a file that the run reads is not, nor what cannot be.
 #[test]
 fn outputs() {
     let folder = Folder::new("plot_outputs").with("p.svg", "before").with("capture", CONFIG);

@@ -1,5 +1,4 @@
-//! `packet write rehamove3`: ways to spell a command, values that are not good, and pulses with a net
-//! charge.
+//! `packet write rehamove3`: ways to spell a command, values that are not good, and net charges.
 
 use crate::pulses::{CONFIG, INIT, STOP};
 use crate::run::{self, bad, prints};
@@ -193,7 +192,7 @@ fn values_that_are_not_good() {
     }
 }
 
-/// Also where nothing is executed. What is said names both areas, and what would balance the last point.
+/// Also where nothing is executed. Both areas are named, and what would balance the last point.
 #[test]
 fn net_charges() {
     for (points, charge, what) in [

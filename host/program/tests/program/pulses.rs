@@ -208,8 +208,8 @@ fn other_commands() {
     assert!(out.contains(&format!("Command number                   1023{told}\n")), "{out}");
 }
 
-/// A byte of the checksum that is A5 is stuffed to 81 F0, one that is 5A to 81 0F: neither is a start or
-/// a stop.
+/// A byte of the checksum that is A5 is stuffed to 81 F0, one that is 5A to 81 0F: neither is a
+/// start or a stop.
 #[test]
 fn marks_behind_the_stuffing_byte() {
     for (bytes, row) in [

@@ -1,4 +1,4 @@
-//! Why a packet was refused: the first of the tests that it fails, in the order of request 12, and where.
+//! Why a packet was refused: the first test that it fails, in request 12's order, and where.
 
 mod found;
 mod told;

@@ -23,9 +23,8 @@ impl<F: Field> What<F> {
                 "there is no start byte, an F0 that does not stand straight after 81".to_owned()
             }
             What::NoStop => {
-                "the packet that begins here has no stop byte, a 0F that does not stand \
-                             straight after 81"
-                    .to_owned()
+                let no_stop = "the packet that begins here has no stop byte";
+                format!("{no_stop}, a 0F that does not stand straight after 81")
             }
             What::NoChecksum => instead("the stop byte", "the checksum"),
             What::BareChecksum(is) => bare(*is, "checksum"),

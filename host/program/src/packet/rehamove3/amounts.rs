@@ -1,5 +1,5 @@
-//! Currents and charges in words. Both are counted in halves: a current in half milliamps, a charge in
-//! half milliamp microseconds, two of which are one nanocoulomb.
+//! Currents and charges in words. Both are counted in halves: a current in half milliamps, a charge
+//! in half milliamp microseconds, two of which are one nanocoulomb.
 
 use crate::words::thousands;
 

@@ -5,7 +5,6 @@ use super::areas::{self, Areas};
 use super::field::{uncoded, Field};
 use super::read::pulse;
 use crate::packet::field::{Field as _, Value};
-use crate::packet::fields::is_told;
 use yarrowbell::rehamove3::{Packet, Point};
 
 /// What is said of a pulse that the writer refuses.
@@ -42,7 +41,7 @@ fn row(values: &[Value<Field>], point: usize) -> Option<String> {
         milliamps(is.current.into()),
         nanocoulombs(areas::charge(&is)),
     ];
-    let faults = of_point().filter(|value| is_told(value)).filter_map(|value| {
+    let faults = of_point().filter_map(|value| {
         let rule = value.field.broken(value.number)?;
         Some(format!(", {} not good: {rule}", value.field.name()))
     });

@@ -1,11 +1,8 @@
 //! What pictures of pulses say.
 
-#[path = "../../../tests/program/well_formed.rs"]
-mod well_formed;
-
 use super::{svg, Panel, ABOVE, BELOW};
+use crate::picture::well_formed::is_well_formed;
 use plotters::style::RGBColor;
-use well_formed::is_well_formed;
 use yarrowbell::rehamove3::Point;
 
 /// The points in microseconds and half milliamps, and their net charge.

@@ -8,7 +8,7 @@ use crate::packet::stuffing::{START, STOP, STUFFING};
 use rand::rngs::SmallRng;
 use rand::Rng;
 
-/// The checksum stands behind the length: a length is not missing where a checksum is there. Data is
+/// The checksum stands behind the length: no length is missing where a checksum is there. Data is
 /// not too much where the length is right.
 #[test]
 fn reasons() {
@@ -61,7 +61,7 @@ fn odd(rng: &mut SmallRng) -> Vec<u8> {
             packet[[1, 3][rng.gen_range(0..2)]] = rng.gen_range(0x10..0x80);
             packet
         }
-        // The checksum ends in D4, stuffed to 81 81: what follows it neither starts nor stops a packet.
+        // The checksum ends in D4, stuffed to 81 81: what follows neither starts nor stops a packet.
         _ => {
             let mut covered = vec![if rng.gen() { START } else { STOP }, 0, 0];
             while framed::<Rehamove3>(&covered)[8] != 0x81 {

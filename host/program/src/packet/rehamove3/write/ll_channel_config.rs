@@ -14,11 +14,12 @@ use yarrowbell::rehamove3::{ChannelConfig, Command, Point, Pulse};
 #[derive(Args)]
 #[command(group(ArgGroup::new("execution").required(true).args(["execute", "no_stimulation"])))]
 #[command(after_help = "\
-A point is a current that flows for a while: DURATION is 0 to 4095 in µs, MILLIAMPS -130 to 130 in steps
-of 0.5. A pulse has 1 to 16 points, in the order in which they flow. The sum of duration times current
-over them is its net charge, and only a pulse without any is written.
+A point is a current that flows for a while: DURATION is 0 to 4095 in µs, MILLIAMPS -130 to 130 in
+steps of 0.5. A pulse has 1 to 16 points, in the order in which they flow. The sum of duration times
+current over them is its net charge, and only a pulse without any is written.
 
-Examples, 20 mA for 250 µs, a pause of 100 µs and 20 mA the other way; the same charges in other shapes:
+Examples, 20 mA one way, a pause and 20 mA the other way; 20 mA, and an eighth of it eight times as
+long:
   yarrowbell packet write rehamove3 ll-channel-config --channel red --execute --packet 1 \\
     --point 250:20 --point 100:0 --point 250:-20
   yarrowbell packet write rehamove3 ll-channel-config --channel 0 --no-stimulation \\

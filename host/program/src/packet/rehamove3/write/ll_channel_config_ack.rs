@@ -18,8 +18,8 @@ pub struct Words {
     #[command(flatten)]
     acknowledgement: acknowledgement::Words,
 
-    /// Electrode error channel: red, blue, black, white or 0 to 3 if the result is an electrode error,
-    /// and else a byte of no meaning
+    /// Electrode error channel: red, blue, black, white or 0 to 3 if the result is an electrode
+    /// error, and else a byte of no meaning
     #[arg(long, value_name = "C", default_value = "0")]
     #[arg(value_parser = named::of::<u8>(Field::ElectrodeErrorChannel), allow_negative_numbers = true)]
     electrode_error_channel: u8,

@@ -42,24 +42,30 @@ pub struct Write {
 /// A command in words.
 #[derive(Subcommand)]
 enum Words {
-    LlInit(ll_init::Words),
+    #[command(name = "ll-init")]
+    Init(ll_init::Words),
     /// Write an Ll_init_ack: the response to an Ll_init
+    #[command(name = "ll-init-ack")]
     #[command(after_help = "\
 Example:
   yarrowbell packet write rehamove3 ll-init-ack --result no-error")]
-    LlInitAck(acknowledgement::Words),
-    LlChannelConfig(ll_channel_config::Words),
-    LlChannelConfigAck(ll_channel_config_ack::Words),
+    InitAck(acknowledgement::Words),
+    #[command(name = "ll-channel-config")]
+    ChannelConfig(ll_channel_config::Words),
+    #[command(name = "ll-channel-config-ack")]
+    ChannelConfigAck(ll_channel_config_ack::Words),
     /// Write an Ll_stop: the PC ends the low-level mode, and the high voltage is switched off
+    #[command(name = "ll-stop")]
     #[command(after_help = "\
 Example:
   yarrowbell packet write rehamove3 ll-stop --packet 2")]
-    LlStop,
+    Stop,
     /// Write an Ll_stop_ack: the response to an Ll_stop
+    #[command(name = "ll-stop-ack")]
     #[command(after_help = "\
 Example:
   yarrowbell packet write rehamove3 ll-stop-ack --result no-error --packet 2")]
-    LlStopAck(acknowledgement::Words),
+    StopAck(acknowledgement::Words),
 }
 
 impl Write {
@@ -90,7 +96,7 @@ impl Write {
             return fault;
         }
         match (&self.command, why) {
-            (Words::LlChannelConfig(words), NotWritten::NotBalanced { charge }) => {
+            (Words::ChannelConfig(words), NotWritten::NotBalanced { charge }) => {
                 let what = balance::told(words.points(), charge);
                 BadInput::argument("--point", format!("the pulse is not good ({why}): {what}"))
             }
@@ -103,18 +109,18 @@ impl Words {
     /// None of a pulse with more points than it can have.
     fn command(&self) -> Option<Command> {
         Some(match self {
-            Words::LlInit(words) => words.command(),
-            Words::LlInitAck(words) => Command::LlInitAck { result: words.result() },
-            Words::LlChannelConfig(words) => words.command()?,
-            Words::LlChannelConfigAck(words) => words.command(),
-            Words::LlStop => Command::LlStop,
-            Words::LlStopAck(words) => Command::LlStopAck { result: words.result() },
+            Words::Init(words) => words.command(),
+            Words::InitAck(words) => Command::LlInitAck { result: words.result() },
+            Words::ChannelConfig(words) => words.command()?,
+            Words::ChannelConfigAck(words) => words.command(),
+            Words::Stop => Command::LlStop,
+            Words::StopAck(words) => Command::LlStopAck { result: words.result() },
         })
     }
 
     fn plot(&self) -> Option<&Path> {
         match self {
-            Words::LlChannelConfig(words) => words.plot.as_deref(),
+            Words::ChannelConfig(words) => words.plot.as_deref(),
             _ => None,
         }
     }
@@ -122,11 +128,11 @@ impl Words {
     /// Those that can be spelt with a value that is not good.
     fn arguments(&self) -> Vec<Argument> {
         match self {
-            Words::LlInit(words) => words.arguments(),
-            Words::LlInitAck(words) | Words::LlStopAck(words) => words.arguments(),
-            Words::LlChannelConfig(words) => words.arguments(),
-            Words::LlChannelConfigAck(words) => words.arguments(),
-            Words::LlStop => Vec::new(),
+            Words::Init(words) => words.arguments(),
+            Words::InitAck(words) | Words::StopAck(words) => words.arguments(),
+            Words::ChannelConfig(words) => words.arguments(),
+            Words::ChannelConfigAck(words) => words.arguments(),
+            Words::Stop => Vec::new(),
         }
     }
 }
