@@ -1,5 +1,4 @@
 -- The net charge of a pulse (request 13): "a signed sum in half milliamp microseconds over its 1 to 16 points".
-use Prim.Native.Nat.{ℕ}
 use mathlib.Core.List.{List, [], _∷_}
 use mathlib.Core.Bool.{Bool, true, false, cond, _&&_}
 use lib.Dec.{leb, eqb}

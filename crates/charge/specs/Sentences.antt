@@ -1,8 +1,8 @@
 -- What is promised of net charges (request 13).
-use Prim.Native.Nat.{ℕ, _≤_}
+use Prim.Native.Nat.{_≤_}
 use mathlib.Core.Bool.{true}
 use mathlib.Core.Path.{_≡_}
-use mathlib.Core.List.{List, [], _∷_}
+use mathlib.Core.List.{List, _∷_}
 use lib.IntN.{natAbs}
 use lib.ListN.{length}
 use Rattle.charge.specs.declared.Point.{Point}

@@ -4,13 +4,14 @@ use mathlib.Core.Path.{_≡_}
 use mathlib.Core.Bool.{true}
 use mathlib.Core.List.{List}
 use native.Mathlib.Omega.{arith}
-use lib.Dec.{eqb, leb}
+use lib.Dec.{eqb}
 use lib.ListN.{length, getD, take, drop, length-take, length-drop}
 use lib.Seq.{length-take-le, getD-drop}
-use borrow.Author.Tests.{leb-true, eqb-true}
+use borrow.Author.Tests.{eqb-true}
 use Rattle.commands.proofs.Tests.{both}
 use Rattle.charge.specs.declared.Pulse.{Pulse}
-use Rattle.charge.specs.Charge.{pointGood, all, isZeroPoint, pointsOf, pulseGood}
+use Rattle.charge.specs.Charge.{pointsOf, pulseGood}
+use Rattle.charge.proofs.Theorems.{good-pulse}
 use Rattle.commands3.specs.declared.Command.the-variants.{LlChannelConfig}
 use Rattle.commands3.specs.Points.{bytesOf, pointsIn, pointsClear}
 use Rattle.commands3.specs.Commands.{firstByte, dataFor, dataOf, configIn, reservedClear}
@@ -37,44 +38,29 @@ first-again first clear = omega arith
 
 -- ---- writing, then reading
 
--- a good pulse
-record Parts (p : Pulse) : Type 0 where
-  some : 1 ≤ p .number
-  most : p .number ≤ 16
-  points : all pointGood (pointsOf p) ≡ true
-  zeros : all isZeroPoint (drop (p .number) (p .points)) ≡ true
-
-parts-of : (p : Pulse) → pulseGood p ≡ true → Parts p
-unfolding pulseGood
-parts-of p g =
-    let some = both (leb 1 (p .number)) _ g in
-    let most = both (leb (p .number) 16) _ (some .1) in
-    let places = both (all pointGood (pointsOf p)) _ (most .1) in
-    record { some = leb-true 1 (p .number) (some .0); most = leb-true (p .number) 16 (most .0); points = places .0; zeros = places .1 }
-
 module _ (execution channel : ℕ) (p : Pulse) (g : pulseGood p ≡ true) where
   -- THEOREM. A config's data is its first byte and at most sixteen points.
   pub length-config : length (dataFor (LlChannelConfig execution channel) p) ≤ 65
-  length-config = let parts = parts-of p g in omega (arith, length-bytes (pointsOf p), length-take (p .number) (p .points))
+  length-config = let parts = good-pulse p g in omega (arith, length-bytes (pointsOf p), length-take (p .number) (p .points))
 
   module _ (h : channel ≤ 3) (sixteen : length (p .points) ≡ 16) where
     -- THEOREM. A good config is read from its data as it was.
     pub reads-config : configIn (dataFor (LlChannelConfig execution channel) p) ≡ record { command = LlChannelConfig execution channel; pulse = p }
     reads-config =
-        let parts = parts-of p g in
+        let parts = good-pulse p g in
         let some = parts .some in
-        let most = parts .most in
+        let most = parts .few in
         let points : pointsIn 16 (p .number) (bytesOf (pointsOf p)) ≡ p .points =
-        rw sixteen at (reads-points (p .number) (p .points) (omega arith) (parts .points) (parts .zeros)) in
+        rw sixteen at (reads-points (p .number) (p .points) (omega arith) (parts .good) (parts .zero)) in
         rw (execution-back, channel-back, number-back, points)
 
     -- THEOREM. The reserved bits of a config's data are 0.
     pub clear-config : reservedClear 2 (dataFor (LlChannelConfig execution channel) p) ≡ true
     unfolding reservedClear
     clear-config =
-        let parts = parts-of p g in
+        let parts = good-pulse p g in
         let some = parts .some in
-        let most = parts .most in
+        let most = parts .few in
         let points : length (pointsOf p) ≡ p .number = length-take-le (p .number) (p .points) (omega arith) in
         rw (reserved-back, number-back) (rw points at (clear-points (pointsOf p)))
 

@@ -5,13 +5,14 @@ use mathlib.Core.Path.{_≡_, refl, ap, ap₂, _∙_}
 use mathlib.Core.Bool.{true}
 use mathlib.Core.List.{List, [], _∷_, _++_}
 use native.Mathlib.Omega.{arith}
-use lib.Dec.{eqb, leb}
+use lib.Dec.{eqb}
 use lib.ListN.{length, getD, take, drop, length-drop}
 use lib.Seq.{getD-drop}
-use borrow.Author.Tests.{leb-true, eqb-true, eq-eqb}
+use borrow.Author.Tests.{eqb-true, eq-eqb}
 use Rattle.commands.proofs.Tests.{both}
 use Rattle.charge.specs.declared.Point.{Point}
-use Rattle.charge.specs.Charge.{ofPaper, withinLimit, pointGood, all, isZeroPoint}
+use Rattle.charge.proofs.Points.{paper-of-good, paper-code}
+use Rattle.charge.specs.Charge.{pointGood, all, isZeroPoint}
 use Rattle.commands3.specs.Points.{wordOf, pointBytes, bytesOf, wordIn, pointIn, noPoint, pointsIn, pointsClear}
 use Rattle.commands3.proofs.Fronts.{front-again}
 
@@ -22,10 +23,7 @@ wordBytes w = w / 16777216 ∷ w / 65536 % 256 ∷ w / 256 % 256 ∷ w % 256 ∷
 -- ---- writing, then reading
 
 code-below : (p : Point) → pointGood p ≡ true → p .code < 1024
-unfolding pointGood withinLimit
-code-below p g =
-    let limit = both (leb 40 (p .code)) (leb (p .code) 560) (both (ofPaper p) (withinLimit p) g .1) in
-    omega (arith, leb-true (p .code) 560 (limit .1))
+code-below p g = omega (arith, paper-code p (paper-of-good p g))
 
 module _ (p : Point) (d : List ℕ) where
   word-back : wordIn (pointBytes p ++ d) ≡ wordOf p

@@ -1,7 +1,6 @@
 -- `writer2::sum_stuffed` meets its contract. Assumes nothing.
 -- The loop's invariant: the check of the bytes left, from here on, is the check of all; and so with their size.
 use mathlib.Core.Path.{_≡_, refl, sym, ap, ap₂, subst, _∙_}
-use mathlib.Core.List.{List}
 use mathlib.Core.Logic.{⊎-elim}
 use Prim.Native.Nat.{ℕ, _≤_, _<_, _-_, _+_}
 use native.Mathlib.Omega.{arith}

@@ -6,7 +6,6 @@ use mathlib.Core.List.{List, [], _∷_, _++_}
 use Prim.Native.Nat.{ℕ, _+_, _*_, _-_, _≤_}
 use native.Mathlib.Omega.{arith}
 use lib.ListN.{take, length-take}
-use borrow.Author.Needs.{needs}
 use Rattle.charge.specs.Charge.{ofPaper}
 use Rattle.charge.proofs.Points.{noPoint, all-at}
 use Rattle.commands3.specs.Points.{bytesOf}
