@@ -1,6 +1,6 @@
 -- Rows of points: tests that all pass, and sums, one point after the other. Assumes nothing.
 use mathlib.Core.Path.{_≡_, refl, sym, ap, ap₂, _∙_}
-use mathlib.Core.Bool.{Bool, true, false, cond, _&&_, false≢true, and-assoc, and-false}
+use mathlib.Core.Bool.{Bool, true, false, cond, _&&_, and-assoc, and-false}
 use mathlib.Core.List.{List, [], _∷_, _++_}
 use Prim.Native.Nat.{ℕ, zero, suc, _+_, _-_, _*_, _≤_, _<_}
 use native.Mathlib.Nat.{mul-le-mul, le-of-suc-le-suc, not-suc-le-zero}
@@ -11,13 +11,10 @@ use lib.Seq.{take-suc, take-nil, drop-nil, drop-cons}
 use lib.Dec.{leb, ltb, eqb}
 use lib.IntN.{ℤ, pos, natAbs, _+ℤ_, _-ℤ_, +ℤ-assoc, +ℤ-idl, +ℤ-idr}
 use borrow.Author.Tests.{leb-true, ltb-true, ltb-false, le-leb, eqb-true}
+use Rattle.commands.proofs.Tests.{both}
 use Rattle.charge.specs.declared.Point.{Point}
 use Rattle.charge.specs.Charge.{ofPaper, withinLimit, pointGood, all, isZeroPoint, partOf, netOf}
 use Rattle.charge.proofs.Sizes.{abs-sub, abs-add, abs-times}
-
-pub both : (a b : Bool) → a && b ≡ true → (a ≡ true) × (b ≡ true)
-both true b e = (refl, e)
-both false b e = absurd (false≢true e)
 
 -- a test that another one makes sure of need not be asked
 spared : (a b c : Bool) → (c ≡ true → b ≡ true) → a && c ≡ a && b && c

@@ -15,7 +15,8 @@ use Rattle.charge.specs.declared.Pulse.{Pulse}
 use Rattle.charge.specs.Charge.{ofPaper, pointGood, all, isZeroPoint, pointsOf, pulseGood, partOf, netOf, chargeOf}
 use Rattle.charge.specs.Sentences.{Bounded, Reordered.same, Reordered.swapped, Reordered.behind, Reordered.onward, OrderFree}
 use Rattle.charge.proofs.Sizes.{small-fits}
-use Rattle.charge.proofs.Points.{both, all-take, all-paper, net-past, net-small}
+use Rattle.commands.proofs.Tests.{both}
+use Rattle.charge.proofs.Points.{all-take, all-paper, net-past, net-small}
 
 pub bounded : Bounded
 bounded points e h = omega (arith, net-small points e)

@@ -5,7 +5,7 @@ use mathlib.Core.Path.{_≡_, refl}
 use mathlib.Core.List.{List, [], _∷_, _++_}
 use native.Mathlib.Omega.{arith}
 use lib.Dec.{eqb}
-use borrow.Author.Tests.{ne-eqb}
+use borrow.Author.Tests.{eqb-true, ne-eqb}
 use Rattle.commands.specs.Answers.{Test, firstOf}
 
 -- both parts of a test that holds
@@ -54,3 +54,11 @@ pub first-passes : (f : ℕ → Bool) (ts : List Test) → f 0 ≡ true → allP
 first-passes f [] z h = z
 first-passes f (t ∷ ts) z h =
     let p = both (f (t .answer)) (allPass f ts) h in passes f (t .holds) (t .answer) (firstOf ts) (p .0) (first-passes f ts z (p .1))
+
+-- what holds of one of two things, by whether a number is k
+pub one-of : {A : Type 0} (P : A → Type 0) (number k : ℕ) (x rest : A) → (number ≡ k → P x) → P rest → P (cond (eqb number k) x rest)
+one-of P number k x rest p q = by (eqb number k) refl
+  where
+    by : (t : Bool) → eqb number k ≡ t → P (cond t x rest)
+    by true e = p (eqb-true number k e)
+    by false e = q

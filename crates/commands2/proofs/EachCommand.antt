@@ -2,11 +2,10 @@
 use Prim.Native.Nat.{ℕ}
 use mathlib.Core.Path.{_≡_, refl}
 use mathlib.Core.Logic.{_⊎_, inl, inr}
-use mathlib.Core.Bool.{Bool, true, false, cond}
+use mathlib.Core.Bool.{false}
 use mathlib.Core.List.{List}
-use lib.Dec.{eqb}
 use lib.ListN.{getD}
-use borrow.Author.Tests.{eqb-true}
+use Rattle.commands.proofs.Tests.{one-of}
 use Rattle.commands2.specs.declared.Command.{Command}
 use Rattle.commands2.specs.declared.Command.the-variants.{Init, InitAck, UnknownCommand, Watchdog, GetStimulationMode, GetStimulationModeAck, InitChannelListMode, InitChannelListModeAck, Other}
 use Rattle.commands2.specs.Results.{signedOf}
@@ -24,13 +23,6 @@ carried-or-other (InitChannelListModeAck result) = inl refl
 carried-or-other (Other number) = inr (number, refl)
 
 module _ (number : ℕ) (d : List ℕ) (P : Command → Type 0) where
-  one-of : (k : ℕ) (x rest : Command) → (number ≡ k → P x) → P rest → P (cond (eqb number k) x rest)
-  one-of k x rest p q = by (eqb number k) refl
-    where
-      by : (t : Bool) → eqb number k ≡ t → P (cond t x rest)
-      by true e = p (eqb-true number k e)
-      by false e = q
-
   pub each-read : (number ≡ 1 → P (Init (getD d 0 0)))
       → (number ≡ 2 → P (InitAck (signedOf (getD d 0 0))))
       → (number ≡ 3 → P (UnknownCommand (getD d 0 0)))
@@ -43,8 +35,8 @@ module _ (number : ℕ) (d : List ℕ) (P : Command → Type 0) where
       → P (commandOf number d)
   unfolding commandOf
   each-read init init-ack unknown watchdog mode mode-ack list list-ack other =
-      one-of 1 _ _ init
-      (one-of 2 _ _ init-ack
-      (one-of 3 _ _ unknown
-      (one-of 4 _ _ watchdog
-      (one-of 10 _ _ mode (one-of 11 _ _ mode-ack (one-of 30 _ _ list (one-of 31 _ _ list-ack other)))))))
+      one-of P number 1 _ _ init
+      (one-of P number 2 _ _ init-ack
+      (one-of P number 3 _ _ unknown
+      (one-of P number 4 _ _ watchdog
+      (one-of P number 10 _ _ mode (one-of P number 11 _ _ mode-ack (one-of P number 30 _ _ list (one-of P number 31 _ _ list-ack other)))))))

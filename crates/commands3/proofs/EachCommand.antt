@@ -2,12 +2,11 @@
 use Prim.Native.Nat.{ℕ, _/_, _%_, _≤_}
 use mathlib.Core.Path.{_≡_, refl, sym}
 use mathlib.Core.Logic.{_⊎_, inl, inr}
-use mathlib.Core.Bool.{Bool, true, false, cond}
+use mathlib.Core.Bool.{true, false}
 use mathlib.Core.List.{List}
 use native.Mathlib.Omega.{arith}
-use lib.Dec.{eqb}
 use lib.ListN.{getD}
-use borrow.Author.Tests.{eqb-true}
+use Rattle.commands.proofs.Tests.{one-of}
 use Rattle.commands3.specs.declared.Command.{Command}
 use Rattle.commands3.specs.declared.Message.{Message}
 use Rattle.commands3.specs.declared.Command.the-variants.{LlInit, LlInitAck, LlChannelConfig, LlChannelConfigAck, LlStop, LlStopAck, Other}
@@ -26,13 +25,6 @@ carried-or-other m = by (m .command)
     by (Other number) = inr (number, refl)
 
 module _ (number : ℕ) (d : List ℕ) (P : Message → Type 0) where
-  one-of : (k : ℕ) (x rest : Message) → (number ≡ k → P x) → P rest → P (cond (eqb number k) x rest)
-  one-of k x rest p q = by (eqb number k) refl
-    where
-      by : (t : Bool) → eqb number k ≡ t → P (cond t x rest)
-      by true e = p (eqb-true number k e)
-      by false e = q
-
   pub each-read : (number ≡ 0 → P (alone (LlInit (getD d 0 0 / 2 % 8))))
       → (number ≡ 1 → P (alone (LlInitAck (getD d 0 0))))
       → (number ≡ 2 → P (configIn d))
@@ -43,7 +35,7 @@ module _ (number : ℕ) (d : List ℕ) (P : Message → Type 0) where
       → P (messageOf number d)
   unfolding messageOf
   each-read init init-ack config config-ack stop stop-ack other =
-      one-of 0 _ _ init (one-of 1 _ _ init-ack (one-of 2 _ _ config (one-of 3 _ _ config-ack (one-of 4 _ _ stop (one-of 5 _ _ stop-ack other)))))
+      one-of P number 0 _ _ init (one-of P number 1 _ _ init-ack (one-of P number 2 _ _ config (one-of P number 3 _ _ config-ack (one-of P number 4 _ _ stop (one-of P number 5 _ _ stop-ack other)))))
 
 module _ (number : ℕ) (d : List ℕ) where
   -- THEOREM. The message of a number has that number.

@@ -6,7 +6,7 @@ use lib.Dec.{leb, lit≤}
 use borrow.Author.Tests.{leb-true}
 use Rattle.charge.specs.declared.Pulse.{Pulse}
 use Rattle.charge.specs.Charge.{pulseGood, chargeOf, isZero}
-use Rattle.charge.proofs.Points.{both}
+use Rattle.commands.proofs.Tests.{both}
 use Rattle.commands3.specs.declared.Command.{Command}
 use Rattle.commands3.specs.declared.Command.the-variants.{LlInit, LlInitAck, LlChannelConfig, LlChannelConfigAck, LlStop, LlStopAck, Other}
 use Rattle.commands3.specs.declared.Message.{Message}

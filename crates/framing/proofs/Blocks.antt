@@ -10,7 +10,7 @@ use lib.ListN.{length, take, drop, getD, length-drop, take-append-drop}
 use lib.Seq.{drop-cons, drop-drop, length-take-le}
 use borrow.Author.Tests.{leb-true, not-true}
 use Rattle.stuffing.specs.Stuffing.{startByte, stopByte, stuffingByte, special, anySpecial}
-use Rattle.stuffing.proofs.Tests.{both}
+use Rattle.commands.proofs.Tests.{both}
 use Rattle.framing.specs.Scan.{opens, closes, opened, scan}
 use Rattle.framing.specs.Blocks.{quiet}
 

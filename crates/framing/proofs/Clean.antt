@@ -11,7 +11,7 @@ use lib.ListN.{length}
 use borrow.Author.Tests.{lt-ltb}
 use Rattle.stuffing.specs.Stuffing.{startByte, stopByte, stuffingByte, stuffingKey, special, stuffedByte, stuffed, pairs}
 use Rattle.stuffing.proofs.Bytes.{Byte, at240, at15, at129, plain, byte}
-use Rattle.stuffing.proofs.Tests.{both}
+use Rattle.commands.proofs.Tests.{both}
 use Rattle.framing.specs.Packet.{bodyOf}
 use Rattle.framing.specs.Scan.{opens, closes, opened, scan}
 use Rattle.framing.proofs.ReadOn.{packet-at}

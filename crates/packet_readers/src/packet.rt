@@ -7,7 +7,7 @@ ghost use lib.ListN.{length};
 ghost use Rattle.packets.specs.Reader.{dataPut};
 ghost use Rattle.packets2.specs.Rehastim2.{rehastim2};
 ghost use Rattle.reader2.specs.Reader.{readPacket};
-ghost use Rattle.packet_readers.specs.Reports.{valuesOf, asPacket};
+ghost use Rattle.packet_readers.specs.Reports.{values, valuesOf, asPacket};
 
 // The values of a command, zero where it has none of that kind.
 struct Values {
@@ -67,63 +67,32 @@ const NO_LIST: ChannelList = ChannelList {
     execution: 0,
 };
 
+fn tell(version: u8, echo: u8, result: i8, mode: u8, list: ChannelList) -> Values
+    ensures { λ r. ⌜ r ≡ values version echo result mode list ⌝ }
+{
+    Values {
+        version,
+        echo,
+        mode,
+        result,
+        list,
+    }
+}
+
 fn values_of(c: Command) -> Values
     ensures { λ r. ⌜ r ≡ valuesOf c ⌝ }
 {
     let none = NO_LIST;
-    let nothing = Values {
-        version: 0,
-        echo: 0,
-        mode: 0,
-        result: 0,
-        list: none,
-    };
     match c {
-        Command::Init { version } => Values {
-            version,
-            echo: 0,
-            mode: 0,
-            result: 0,
-            list: none,
-        },
-        Command::InitAck { result } => Values {
-            version: 0,
-            echo: 0,
-            mode: 0,
-            result,
-            list: none,
-        },
-        Command::UnknownCommand { echo } => Values {
-            version: 0,
-            echo,
-            mode: 0,
-            result: 0,
-            list: none,
-        },
-        Command::GetStimulationModeAck { result, mode } => Values {
-            version: 0,
-            echo: 0,
-            mode,
-            result,
-            list: none,
-        },
-        Command::InitChannelListMode { list } => Values {
-            version: 0,
-            echo: 0,
-            mode: 0,
-            result: 0,
-            list,
-        },
-        Command::InitChannelListModeAck { result } => Values {
-            version: 0,
-            echo: 0,
-            mode: 0,
-            result,
-            list: none,
-        },
-        Command::Watchdog => nothing,
-        Command::GetStimulationMode => nothing,
-        Command::Other { number: _ } => nothing,
+        Command::Init { version } => tell(version, 0, 0, 0, none),
+        Command::InitAck { result } => tell(0, 0, result, 0, none),
+        Command::UnknownCommand { echo } => tell(0, echo, 0, 0, none),
+        Command::Watchdog => tell(0, 0, 0, 0, none),
+        Command::GetStimulationMode => tell(0, 0, 0, 0, none),
+        Command::GetStimulationModeAck { result, mode } => tell(0, 0, result, mode, none),
+        Command::InitChannelListMode { list } => tell(0, 0, 0, 0, list),
+        Command::InitChannelListModeAck { result } => tell(0, 0, result, 0, none),
+        Command::Other { number: _ } => tell(0, 0, 0, 0, none),
     }
 }
 

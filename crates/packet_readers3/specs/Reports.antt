@@ -14,7 +14,7 @@ use Rattle.packet_readers3.specs.declared.ll_stop.ReadEmpty.{ReadEmpty}
 use Rattle.packet_readers3.specs.declared.ll_channel_config.ReadConfig.{ReadConfig}
 use Rattle.packet_readers3.specs.declared.ll_channel_config.ReadElectrode.{ReadElectrode}
 
-abbrev values : ℕ → ℕ → ℕ → ℕ → ℕ → Values
+abbrev pub values : ℕ → ℕ → ℕ → ℕ → ℕ → Values
 values voltage result electrode execution channel =
     record { voltage = voltage; result = result; electrode = electrode; execution = execution; channel = channel }
 

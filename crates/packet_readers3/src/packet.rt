@@ -8,7 +8,7 @@ ghost use lib.ListN.{length};
 ghost use Rattle.packets.specs.Reader.{dataPut};
 ghost use Rattle.packets3.specs.Rehamove3.{rehamove3};
 ghost use Rattle.reader3.specs.Reader.{readPacket};
-ghost use Rattle.packet_readers3.specs.Reports.{valuesOf, asPacket};
+ghost use Rattle.packet_readers3.specs.Reports.{values, valuesOf, asPacket};
 
 // The values of a command, zero where it has none of that kind. Those of a pulse stand beside it.
 struct Values {
@@ -36,54 +36,29 @@ pub struct ReadPacket {
     pub points: [Point; 16],
 }
 
+fn tell(voltage: u8, result: u8, electrode: u8, execution: u8, channel: u8) -> Values
+    ensures { λ r. ⌜ r ≡ values voltage result electrode execution channel ⌝ }
+{
+    Values {
+        voltage,
+        result,
+        electrode,
+        execution,
+        channel,
+    }
+}
+
 fn values_of(c: Command) -> Values
     ensures { λ r. ⌜ r ≡ valuesOf c ⌝ }
 {
-    let nothing = Values {
-        voltage: 0,
-        result: 0,
-        electrode: 0,
-        execution: 0,
-        channel: 0,
-    };
     match c {
-        Command::LlInit { voltage } => Values {
-            voltage,
-            result: 0,
-            electrode: 0,
-            execution: 0,
-            channel: 0,
-        },
-        Command::LlInitAck { result } => Values {
-            voltage: 0,
-            result,
-            electrode: 0,
-            execution: 0,
-            channel: 0,
-        },
-        Command::LlChannelConfig { execution, channel } => Values {
-            voltage: 0,
-            result: 0,
-            electrode: 0,
-            execution,
-            channel,
-        },
-        Command::LlChannelConfigAck { result, electrode } => Values {
-            voltage: 0,
-            result,
-            electrode,
-            execution: 0,
-            channel: 0,
-        },
-        Command::LlStopAck { result } => Values {
-            voltage: 0,
-            result,
-            electrode: 0,
-            execution: 0,
-            channel: 0,
-        },
-        Command::LlStop => nothing,
-        Command::Other { number: _ } => nothing,
+        Command::LlInit { voltage } => tell(voltage, 0, 0, 0, 0),
+        Command::LlInitAck { result } => tell(0, result, 0, 0, 0),
+        Command::LlChannelConfig { execution, channel } => tell(0, 0, 0, execution, channel),
+        Command::LlChannelConfigAck { result, electrode } => tell(0, result, electrode, 0, 0),
+        Command::LlStop => tell(0, 0, 0, 0, 0),
+        Command::LlStopAck { result } => tell(0, result, 0, 0, 0),
+        Command::Other { number: _ } => tell(0, 0, 0, 0, 0),
     }
 }
 

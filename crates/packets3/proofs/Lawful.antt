@@ -12,7 +12,7 @@ use borrow.Author.Tests.{eqb-true, eq-eqb, le-leb, lt-leb, leb-true, ltb-true, l
 use Rattle.crc.specs.Crc.{crc, crc16}
 use Rattle.stuffing.specs.Stuffing.{stuffingByte, stuffingKey, stuffed, pairs}
 use Rattle.stuffing.proofs.Laws.{unstuffed-le}
-use Rattle.stuffing.proofs.Tests.{both}
+use Rattle.commands.proofs.Tests.{both}
 use Rattle.stuffing.proofs.RoundTrip.{stuffed-unstuffed}
 use Rattle.framing.specs.Packet.{bodyOf}
 use Rattle.packets.specs.Laws.{Lawful, bodyFor}

@@ -9,7 +9,7 @@ use lib.IntN.{ℤ, pos, _+ℤ_}
 use lib.ListN.{length, getD, take, drop}
 use borrow.Author.Tests.{le-leb, eq-eqb, ne-eqb}
 use Rattle.charge.specs.Charge.{pointGood, isZeroPoint, all, pulseGood, partOf, weighedPoint, netOf, chargeOf}
-use Rattle.charge.proofs.Points.{both}
+use Rattle.commands.proofs.Tests.{both}
 use Rattle.commands3.specs.Points.{wordIn, pointIn, pointsIn, pointsClear}
 use Rattle.commands3.specs.Commands.{noPulse, configIn, reservedClear}
 use Rattle.points3.specs.declared.PointsRead.{PointsRead}

@@ -12,7 +12,7 @@ use Rattle.slices.specs.Overlay.{overlay}
 use Rattle.slices.proofs.Overlay.{overlay-fits}
 use Rattle.stuffing.specs.Stuffing.{stuffed, pairsGood}
 use Rattle.stuffing.specs.declared.Surveyed.{Surveyed}
-use Rattle.stuffing.proofs.Tests.{both}
+use Rattle.commands.proofs.Tests.{both}
 use Rattle.packets.specs.Reader.{plain, coveredAnswer, answered, put}
 use Rattle.packets.proofs.Tests.{fits-room}
 use Rattle.commands2.specs.declared.Command.{Command}

@@ -10,7 +10,7 @@ use Rattle.crc.proofs.Xor.{xor-assoc}
 use Rattle.stuffing.specs.Stuffing.{stuffingByte, stuffingKey, special, stuffedByte, stuffed, opensPair, wrongIn, pairsGood, plainOf, unstuffed}
 use Rattle.stuffing.proofs.Bytes.{Byte, at240, at15, at129, plain, byte}
 use Rattle.stuffing.proofs.Laws.{stuffed-special, stuffed-plain}
-use Rattle.stuffing.proofs.Tests.{both}
+use Rattle.commands.proofs.Tests.{both}
 
 -- THEOREM. What was stuffed reads back.
 pub unstuffed-stuffed : (c : List ℕ) → unstuffed false (stuffed c) ≡ c

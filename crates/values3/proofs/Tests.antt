@@ -16,7 +16,7 @@ use Rattle.charge.specs.declared.Pulse.{Pulse}
 use Rattle.charge.specs.declared.Weighed.{Weighed}
 use Rattle.charge.specs.Charge.{all, isZeroPoint, pulseGood, netOf, chargeOf, isZero, weighed}
 use Rattle.charge.proofs.Sizes.{zero-bits}
-use Rattle.charge.proofs.Points.{both}
+use Rattle.commands.proofs.Tests.{both}
 use Rattle.commands3.specs.Commands.{isNoPulse}
 
 module _ (test : Point → Bool) (l : List Point) (i : ℕ) where

@@ -37,7 +37,7 @@ const VALUED: [&str; 17] = [
 /// Measure the library against plain Rust and print the ratios
 ///
 /// Builds the benchmark first, in the folder that this program was built in. All of it takes some
-/// seven minutes.
+/// minutes.
 #[derive(Args)]
 #[command(after_help = "\
 Example, the ticks alone:
