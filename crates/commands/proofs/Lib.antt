@@ -1,3 +1,4 @@
 pub mod Tests
 pub mod Entries
 pub mod Fits
+pub mod Order

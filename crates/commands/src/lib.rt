@@ -139,7 +139,7 @@ pub fn good_single(v: Single) -> bool
 // ---- the reply
 
 // Whether an answer decides a command: it was carried out, or refused.
-fn is_decision(answer: u8) -> bool
+pub fn is_decision(answer: u8) -> bool
     ensures { λ r. ⌜ r ≡ isDecision answer ⌝ }
 {
     (answer == answers::DONE)

@@ -9,10 +9,11 @@ use lib.Seq.{slice, slice-cons, slice-empty}
 use borrow.Author.Tests.{eq-eqb, ne-eqb}
 use Rattle.bits.specs.Fields.{field}
 use Rattle.commands.specs.Commands.{Command, Command.init, checkOf}
+use Rattle.commands.specs.Bytes.{AreBytes}
 use Rattle.frames.specs.Layout.{identIn, sizeFor, initWord, initOf, entryIn, settingsIn, commandIn}
 use Rattle.frames.specs.Bytes.{frameSize, head, initNumber, initBytes, settingsBytes, frame}
 use Rattle.demands.specs.DontCare.{clear, cleared}
-use Rattle.demands.specs.RoundTrips.{AreBytes, EachWritesBack}
+use Rattle.demands.specs.RoundTrips.{EachWritesBack}
 use Rattle.writers.proofs.Outcomes.{written-frame}
 use Rattle.demands.proofs.Accepted.{Lows, Accepted, accepted, reads-found, none-lows}
 use Rattle.frames.proofs.Idents.{init-here, update-here, stop-here, single-here, check-3, check-5, for-each-ident}

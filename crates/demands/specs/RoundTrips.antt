@@ -3,9 +3,10 @@ use Prim.Native.Nat.{ℕ, _≤_, _<_}
 use mathlib.Core.Bool.{true}
 use mathlib.Core.Path.{_≡_}
 use mathlib.Core.List.{List, _++_}
-use lib.ListN.{length, getD, take, drop}
+use lib.ListN.{length, take, drop}
 use Rattle.commands.specs.Ranges.{goodCount}
 use Rattle.commands.specs.Commands.{Command, Command.init, Command.update, Command.stop, Command.single, good}
+use Rattle.commands.specs.Bytes.{AreBytes}
 use Rattle.frames.specs.Layout.{identIn, commandIn}
 use Rattle.frames.specs.Bytes.{frameSize}
 use Rattle.frames.specs.Reader.{readFrame, found}
@@ -31,9 +32,6 @@ abbrev pub ReadsBack : Type 0
 ReadsBack =
     (c : Command) → Held c → good c ≡ true → (count : ℕ) → Told count c → (out rest : List ℕ) → frameSize c ≤ length out
     → readFrame (written c out ++ rest) count ≡ found c
-
-abbrev pub AreBytes : List ℕ → Type 0
-AreBytes s = (i : ℕ) → getD s i 0 < 256
 
 -- what was read is a good command, and written again it gives the used bytes with exactly the don't-care bits clear
 pub record WritesBack (s : List ℕ) (count : ℕ) : Type 0 where

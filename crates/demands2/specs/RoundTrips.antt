@@ -5,10 +5,11 @@ use mathlib.Core.Bool.{true, false}
 use mathlib.Core.Path.{_≡_}
 use mathlib.Core.List.{List, _∷_, _++_}
 use lib.ListN.{length, take, drop}
+use Rattle.commands.specs.Bytes.{AreBytes}
 use Rattle.packets.specs.Reader.{reading, dataPut}
 use Rattle.packets.specs.Writer.{framed}
 use Rattle.packets.specs.Line.{Garbage, Alone, packetAt}
-use Rattle.packets.specs.RoundTrips.{ReadBack, AreBytes}
+use Rattle.packets.specs.RoundTrips.{ReadBack}
 use Rattle.commands2.specs.declared.Command.{Command}
 use Rattle.commands2.specs.declared.Command.the-variants.{Other}
 use Rattle.commands2.specs.Commands.{numberOf, dataOf, commandOf, isOther}

@@ -6,10 +6,11 @@ use mathlib.Core.Path.{_≡_}
 use mathlib.Core.List.{List, _++_}
 use lib.IntN.{pos}
 use lib.ListN.{length, take, drop}
+use Rattle.commands.specs.Bytes.{AreBytes}
 use Rattle.packets.specs.Reader.{reading, dataPut}
 use Rattle.packets.specs.Writer.{framed}
 use Rattle.packets.specs.Line.{Garbage, Alone, packetAt}
-use Rattle.packets.specs.RoundTrips.{ReadBack, AreBytes}
+use Rattle.packets.specs.RoundTrips.{ReadBack}
 use Rattle.charge.specs.Charge.{chargeOf}
 use Rattle.commands3.specs.declared.Message.{Message}
 use Rattle.commands3.specs.declared.Command.the-variants.{Other}

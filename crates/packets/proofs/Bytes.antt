@@ -6,12 +6,12 @@ use lib.Bits.{bitXor, xor-lt}
 use lib.Dec.{eqb, lit<}
 use lib.ListN.{take, drop}
 use lib.Seq.{getD-drop}
+use Rattle.commands.specs.Bytes.{AreBytes}
 use Rattle.stuffing.specs.Stuffing.{stuffingByte, stuffingKey, opensPair, plainOf, unstuffed}
 use Rattle.framing.specs.declared.Found.{Found}
 use Rattle.framing.specs.Scan.{bodyAt}
 use Rattle.packets.specs.Generation.{Generation}
 use Rattle.packets.specs.Reader.{plain, dataIn, covered}
-use Rattle.packets.specs.RoundTrips.{AreBytes}
 
 take-bytes : (n : ℕ) (l : List ℕ) → AreBytes l → AreBytes (take n l)
 take-bytes zero l h i = lit< tt

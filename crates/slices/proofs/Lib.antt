@@ -1,2 +1,4 @@
 pub mod Overlay
 pub mod Front
+pub mod Stored
+pub mod Compared

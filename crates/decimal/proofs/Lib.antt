@@ -1,0 +1,5 @@
+pub mod Digits
+pub mod Values
+pub mod Theorems
+pub mod Front
+pub mod Reading
