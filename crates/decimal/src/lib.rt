@@ -20,9 +20,9 @@ const ZERO: u8 = b'0';
 
 const LARGEST: u64 = 4294967295;
 
-// How many digits a number has.
+// How many digits a number has, ten at most.
 pub fn count(n: u32) -> usize
-    ensures { λ r. ⌜ r ≡ length (digits n) ⌝ }
+    ensures { λ r. ⌜ (r ≡ length (digits n)) × (r ≤ 10) ⌝ }
 {
     if n < 10 {
         return 1;

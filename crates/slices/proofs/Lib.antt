@@ -2,3 +2,4 @@ pub mod Overlay
 pub mod Front
 pub mod Stored
 pub mod Compared
+pub mod Parts

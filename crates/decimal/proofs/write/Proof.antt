@@ -31,14 +31,14 @@ same-length c = search needs
 returns-2 : tie.Need-returns-2
 returns-2 c =
     let a = c .before .before .before .before .before .before .before .before .args in
-    let k = c .before .before .before .before .before .count .ensures in
+    let k = c .before .before .before .before .before .count .ensures .0 in
     let y = store-yes (a .out .now) (a .at) (digits (a .n)) (omega (arith, k)) in
     (k ∙ sym (y .0), c .before .before .put .ensures ∙ sym (y .1))
 
 returns-3 : tie.Need-returns-3
 returns-3 c =
     let a = c .before .before .before .before .args in
-    let k = c .before .count .ensures in
+    let k = c .before .count .ensures .0 in
     let n = store-no (a .out .now) (a .at) (digits (a .n)) (omega (arith, k)) in (sym (n .0), sym (n .1))
 
 pub write-spec : {M : Type 1} → statement M
