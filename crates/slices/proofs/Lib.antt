@@ -3,3 +3,4 @@ pub mod Front
 pub mod Stored
 pub mod Compared
 pub mod Parts
+pub mod Putting

@@ -1,3 +1,4 @@
 pub mod Overlay
 pub mod Stored
 pub mod Starts
+pub mod Put
