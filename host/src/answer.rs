@@ -20,7 +20,7 @@ macro_rules! answers {
             pub const ALL: [Answer; [$($number),*].len()] = [$(Answer::$name),*];
 
             /// Of a number in whatever width a report has for it.
-            pub fn from_number(number: impl Into<u32>) -> Option<Answer> {
+            pub fn from_number(number: impl Into<u64>) -> Option<Answer> {
                 match number.into() {
                     $($number => Some(Answer::$name),)*
                     _ => None,
@@ -76,7 +76,7 @@ impl Answer {
     }
 
     /// The answer that the library gave by its number.
-    pub(crate) fn known(number: impl Into<u32>) -> Answer {
+    pub(crate) fn known(number: impl Into<u64>) -> Answer {
         Answer::from_number(number).expect("the library answers by the numbers of document 01")
     }
 }

@@ -1,11 +1,11 @@
-//! Safe calls to the proved guard unit of document 01: its box, its trace ring, and the reader and
-//! writer of ScienceMode frames; and to the proved readers and writers of the packets of two later
-//! devices, the RehaStim2 (ScienceMode2) and the RehaMove3.
+//! Safe calls to the proved guard unit of document 01: its box, its trace ring, the trace as a text
+//! sheet, and the reader and writer of ScienceMode frames; and to the proved readers and writers of the
+//! packets of two later devices, the RehaStim2 (ScienceMode2) and the RehaMove3.
 //!
-//! [`Guard`], [`records()`] for its trace, [`read()`], [`write()`] and [`reply()`] for frames, and
-//! [`rehastim2`] and [`rehamove3`] for packets, are what a host program uses. [`calls`] has one function
-//! for each export of the library, for tests that drive them one by one. Clocks count tenths of a
-//! millisecond.
+//! [`Guard`], [`records()`] and [`sheet`] for its trace, [`read()`], [`write()`] and [`reply()`] for
+//! frames, and [`rehastim2`] and [`rehamove3`] for packets, are what a host program uses. [`calls`] has
+//! one function for each export of the library, for tests that drive them one by one. Clocks count
+//! tenths of a millisecond.
 //!
 //! `cargo test` in this folder has the library proved and built first, and compares it with the
 //! codecs, the ring and the machine in `independent/`, which share nothing with it.
@@ -24,6 +24,7 @@ mod records;
 mod refusal;
 pub mod rehamove3;
 pub mod rehastim2;
+pub mod sheet;
 mod state;
 mod told;
 

@@ -10,13 +10,15 @@
 //! - a call neither keeps a pointer nor goes past its length, and is given to itself what it may
 //!   write.
 //!
-//! The exports for the packets of a device are in a module of that device's name.
+//! The exports for the packets of a device are in a module of that device's name, those for the sheet
+//! in `sheet`.
 
 mod boxes;
 mod frames;
 pub mod rehamove3;
 pub mod rehastim2;
 mod ring;
+pub mod sheet;
 
 pub use boxes::*;
 pub use frames::*;
