@@ -1,7 +1,7 @@
-//! A second codec of the four ScienceMode command frames, a second trace ring and a second box, and
-//! second codecs of the packets of the RehaStim2 and of the RehaMove3, written from the papers alone
-//! and sharing nothing with the library that they are compared with. Where a push meets bytes that do
-//! not split, which no paper speaks of, the ring follows the repository's decision.
+//! A second codec of the four ScienceMode command frames, a second trace ring with its text sheet and a
+//! second box, and second codecs of the packets of the RehaStim2 and of the RehaMove3, written from the
+//! papers alone and sharing nothing with the library that they are compared with. Where a push meets
+//! bytes that do not split, which no paper speaks of, the ring follows the repository's decision.
 //!
 //! Source 003 is "ScienceMode - RehaStim Stimulation Device", 21st September 2009; document 01 is
 //! the specification of this repository, which rules where source 003 leaves a choice.
@@ -12,10 +12,12 @@
 //! The ring is there twice: `trace` has it from the records pushed, `ring` from the bytes of a
 //! buffer, whoever wrote them.
 //!
+//! `sheet` has the trace as a text sheet, by a crate that writes and reads such sheets.
+//!
 //! `rehastim2` and `rehamove3` have the packets, as grammars; `packets` has what both share.
 //!
-//! These are slow and near to the papers. `plain` has the codecs and the ring once more, and the box,
-//! as fast as plain safe Rust can be made.
+//! These are slow and near to the papers. `plain` has the codecs, the ring and the sheet once more, and
+//! the box, as fast as plain safe Rust can be made.
 
 mod codec;
 mod command;
@@ -26,6 +28,7 @@ mod record;
 pub mod rehamove3;
 pub mod rehastim2;
 mod ring;
+pub mod sheet;
 mod tables;
 mod trace;
 mod walk;

@@ -12,6 +12,26 @@ pub enum Record {
 }
 
 impl Record {
+    /// The record of these bytes, if they are those of one.
+    pub fn of(bytes: &[u8]) -> Option<Record> {
+        match *bytes {
+            [1, a, b, c, d, ident, answer] => {
+                let clock = u32::from_le_bytes([a, b, c, d]);
+                Some(Record::Answer { clock, ident, answer })
+            }
+            [2, a, b, c, d, channel, low, high, current] => {
+                let clock = u32::from_le_bytes([a, b, c, d]);
+                let width = u16::from_le_bytes([low, high]);
+                Some(Record::Pulse { clock, channel, width, current })
+            }
+            [3, a, b, c, d, cause] => {
+                let clock = u32::from_le_bytes([a, b, c, d]);
+                Some(Record::Trip { clock, cause })
+            }
+            _ => None,
+        }
+    }
+
     pub fn bytes(&self) -> Vec<u8> {
         match *self {
             Record::Answer { clock, ident, answer } => {
@@ -37,16 +57,16 @@ fn length(kind: u8) -> Option<usize> {
     }
 }
 
-/// Whether the bytes split into whole known records.
-pub(crate) fn split(bytes: &[u8]) -> bool {
+/// The whole known records that the bytes split into; none if they do not.
+pub fn records(bytes: &[u8]) -> Option<Vec<Record>> {
+    let mut records = Vec::new();
     let mut rest = bytes;
     while let Some(&kind) = rest.first() {
-        match length(kind).and_then(|length| rest.get(length..)) {
-            Some(behind) => rest = behind,
-            None => return false,
-        }
+        let (first, behind) = rest.split_at_checked(length(kind)?)?;
+        records.push(Record::of(first)?);
+        rest = behind;
     }
-    true
+    Some(records)
 }
 
 /// How many of the used bytes are dropped with the oldest record.

@@ -14,4 +14,4 @@ pub use push::{push, push_answer, push_pulse, push_trip};
 pub use read_out::read_out;
 pub use ready::ready;
 pub(crate) use records::{answer, pulse, trip};
-pub(crate) use split::splits;
+pub(crate) use split::{hops, splits};

@@ -21,7 +21,7 @@ pub(crate) fn splits(part: &[u8], ring: &Ring) -> bool {
 /// A loop for each kind: the hop is then a branch that can be foretold, and the next kind is not
 /// waited for.
 #[inline(always)]
-fn hops(run: &[u8], first: usize) -> Option<usize> {
+pub(crate) fn hops(run: &[u8], first: usize) -> Option<usize> {
     let mut next = first;
     loop {
         let met = next;
