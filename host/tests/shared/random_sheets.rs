@@ -1,6 +1,7 @@
 //! Random records of the trace, readouts of them, their sheets, and damaged sheets.
 
-use independent::{sheet, Record};
+use independent::sheet::write;
+use independent::Record;
 use rand::rngs::SmallRng;
 use rand::seq::SliceRandom;
 use rand::Rng;
@@ -58,7 +59,7 @@ pub fn clocks(rng: &mut SmallRng, number: usize) -> Vec<u32> {
     let mut next = || {
         clock = match rng.gen_range(0..20) {
             0 => clock / 10,
-            1 => clock.wrapping_mul(10) + rng.gen_range(0..=5),
+            1 => clock.wrapping_mul(10).wrapping_add(rng.gen_range(0..10)),
             2 => any(rng, &[0, 9, 10, 9_999, 10_000, 99_999_999, 100_000_000, u32::MAX]),
             _ => clock.wrapping_add(rng.gen_range(0..=step)),
         };
@@ -75,7 +76,7 @@ pub fn readout(rng: &mut SmallRng, number: usize) -> Vec<u8> {
 /// The sheet of such a readout.
 pub fn sheet(rng: &mut SmallRng, number: usize) -> Vec<u8> {
     let mut out = vec![0; 44 + 28 * number];
-    let size = sheet::write(&readout(rng, number), &mut out).expect("every field is in its range");
+    let size = write(&readout(rng, number), &mut out).expect("every field is in its range");
     out.truncate(size);
     out
 }

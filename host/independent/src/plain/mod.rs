@@ -1,5 +1,5 @@
-//! Codecs, ring, sheet and box in plain safe Rust, made to be fast: in place, without allocation, by shifts
-//! and masks. The entry points are never inlined, so that a call is a call.
+//! Codecs, ring, sheet and box in plain safe Rust, made to be fast: in place, without allocation, by
+//! shifts and masks. The entry points are never inlined, so that a call is a call.
 
 mod answer;
 pub mod codec;

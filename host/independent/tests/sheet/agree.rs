@@ -39,7 +39,7 @@ fn lent<E: Debug>(
     room: usize,
     call: impl FnOnce(&mut [u8]) -> Result<usize, E>,
 ) -> Result<Vec<u8>, E> {
-    // No byte of any sheet or record, one behind the other, repeats like this.
+    // Bytes of no sheet, and no two alike beside each other.
     let before: Vec<u8> = (0..room + 2 * AROUND).map(|place| place as u8 | 0x80).collect();
     let mut buffer = before.clone();
     let told = call(&mut buffer[AROUND..AROUND + room]);

@@ -62,9 +62,9 @@ fn of_each_kind() {
 #[test]
 fn of_random_sheets() {
     let mut answers = [0; 2];
-    seeded(0..12, |rng| {
+    seeded(0..4, |rng| {
         let [bad, good] = every_damage(&random_sheets::sheet(rng, 4));
         answers = [answers[0] + bad, answers[1] + good];
     });
-    assert!(answers.iter().all(|&times| times > 5_000), "{answers:?}");
+    assert!(answers.iter().all(|&times| times > 1_000), "{answers:?}");
 }

@@ -1,5 +1,6 @@
 //! Sheets by their lines.
 
+use crate::agree;
 use independent::Record;
 
 pub const HEADER: &str = "clock,kind,channel,width_us,current_ma,code\n";
@@ -19,4 +20,18 @@ pub fn line(record: &Record) -> String {
         }
         Record::Trip { clock, cause } => format!("{clock},trip,,,,{cause}"),
     }
+}
+
+/// The sheet of these records, whether or not their fields are in their ranges.
+pub fn sheet_of(records: &[Record]) -> Vec<u8> {
+    let lines: Vec<String> = records.iter().map(line).collect();
+    sheet(&lines.iter().map(String::as_str).collect::<Vec<_>>())
+}
+
+/// These records are written as their lines, and read back.
+pub fn both_ways(records: &[Record]) {
+    let readout: Vec<u8> = records.iter().flat_map(Record::bytes).collect();
+    let sheet = sheet_of(records);
+    assert_eq!(agree::write(&readout).as_deref(), Ok(&sheet[..]));
+    assert_eq!(agree::read(&sheet).as_deref(), Ok(&readout[..]));
 }

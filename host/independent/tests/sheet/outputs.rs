@@ -7,7 +7,7 @@ use independent::sheet::NotRead;
 
 #[test]
 fn every_room() {
-    seeded(0..300, |rng| {
+    seeded(0..50, |rng| {
         for number in 0..=9 {
             let readout = random_sheets::readout(rng, number);
             let sheet = agree::write(&readout).expect("it is good");

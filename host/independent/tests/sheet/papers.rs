@@ -1,7 +1,7 @@
 //! The example of request 03, which is case 13 of document 01, and a line of each other kind.
 
 use crate::agree;
-use crate::lines::{line, sheet, HEADER};
+use crate::lines::{both_ways, line, sheet, HEADER};
 use independent::sheet::records;
 use independent::Record;
 
@@ -52,8 +52,7 @@ fn each_kind() {
     stands(&[2, 5, 0, 0, 0, 8, 10, 0, 127], &sheet(&[&line(&pulse)]));
     stands(&[3, 255, 0, 0, 0, 2], &sheet(&[&line(&trip)]));
     let all = [answer, pulse, trip, answer];
+    both_ways(&all);
     let readout: Vec<u8> = all.iter().flat_map(Record::bytes).collect();
-    let lines = all.map(|record| line(&record));
-    stands(&readout, &sheet(&lines.each_ref().map(String::as_str)));
     assert_eq!(records(&readout).as_deref(), Some(&all[..]));
 }

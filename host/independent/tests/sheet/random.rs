@@ -1,22 +1,13 @@
 //! Random readouts and sheets.
 
 use crate::agree;
-use crate::lines::{line, sheet};
+use crate::lines::{both_ways, line, sheet, sheet_of};
 use crate::random_sheets::{self, bad_record, clocks, damaged, readout, record};
 use crate::seeded::seeded;
 use independent::sheet::{in_range, records, NotRead};
 use independent::Record;
 use rand::rngs::SmallRng;
 use rand::Rng;
-
-/// What is written reads back as the readout, and has a line for each record.
-fn both_ways(readout: &[u8]) {
-    let records = records(readout).expect("it splits");
-    let lines: Vec<String> = records.iter().map(line).collect();
-    let sheet = sheet(&lines.iter().map(String::as_str).collect::<Vec<_>>());
-    assert_eq!(agree::write(readout), Ok(sheet.clone()));
-    assert_eq!(agree::read(&sheet).as_deref(), Ok(readout));
-}
 
 /// What reads, written again, is the sheet. Tells whether it reads.
 fn back(sheet: &[u8]) -> bool {
@@ -36,7 +27,7 @@ fn back(sheet: &[u8]) -> bool {
 fn good_readouts() {
     seeded(0..40_000, |rng| {
         let number = rng.gen_range(0..20);
-        both_ways(&readout(rng, number));
+        both_ways(&records(&readout(rng, number)).expect("it splits"));
     });
 }
 
@@ -61,9 +52,7 @@ fn fields_out_of_range() {
         assert_eq!(good.iter().position(|good| !good), Some(bad));
         let readout: Vec<u8> = all.iter().flat_map(Record::bytes).collect();
         assert_eq!(agree::write(&readout), Err(4));
-        let lines: Vec<String> = all.iter().map(line).collect();
-        let sheet = sheet(&lines.iter().map(String::as_str).collect::<Vec<_>>());
-        assert_eq!(agree::read(&sheet), Err(NotRead::BadLine(2 + bad)));
+        assert_eq!(agree::read(&sheet_of(&all)), Err(NotRead::BadLine(2 + bad)));
     });
 }
 
@@ -152,7 +141,7 @@ fn field(rng: &mut SmallRng) -> String {
 #[test]
 fn fields_put_together() {
     let mut answers = [0; 2];
-    seeded(600_000..700_000, |rng| {
+    seeded(600_000..640_000, |rng| {
         let mut sheet = sheet(&[]);
         for clock in clocks(rng, 2) {
             let line = line(&record(rng, clock));
@@ -165,13 +154,13 @@ fn fields_put_together() {
         }
         answers[usize::from(back(&sheet))] += 1;
     });
-    assert!(answers.iter().all(|&times| times > 10_000), "{answers:?}");
+    assert!(answers.iter().all(|&times| times > 5_000), "{answers:?}");
 }
 
 /// Bytes that mean something in a sheet, behind its header.
 #[test]
 fn meaningful_bytes() {
-    seeded(700_000..800_000, |rng| {
+    seeded(700_000..740_000, |rng| {
         let mut sheet = sheet(&["70000,pulse,1,100,10,"]);
         let bytes = b"0123456789,,,,,,\n\nanswerpulsetrip\r \"";
         sheet.extend((0..rng.gen_range(0..40)).map(|_| bytes[rng.gen_range(0..bytes.len())]));

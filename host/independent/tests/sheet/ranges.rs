@@ -1,65 +1,61 @@
 //! "Where each field alone is in 01's ranges": every value of every field, written and read.
 
 use crate::agree;
-use crate::lines::{line, sheet};
-use independent::sheet::{in_range, NotRead};
+use crate::lines::{both_ways, sheet_of};
+use crate::refused::{bad, refused};
+use independent::sheet::in_range;
 use independent::Record;
 
 /// A record is written and read exactly if it is good.
 fn stands(record: Record, good: bool) {
     assert_eq!(in_range(&record), good, "{record:?}");
-    let (readout, sheet) = (record.bytes(), sheet(&[&line(&record)]));
     if good {
-        assert_eq!(agree::write(&readout), Ok(sheet.clone()));
-        assert_eq!(agree::read(&sheet), Ok(readout));
+        both_ways(&[record]);
     } else {
-        assert_eq!(agree::write(&readout), Err(4));
-        assert_eq!(agree::read(&sheet), Err(NotRead::BadLine(2)));
+        assert_eq!(agree::write(&record.bytes()), Err(4));
+        refused(&sheet_of(&[record]), 2);
     }
 }
 
-/// A line is not read.
-fn bad(line: &str) {
-    assert_eq!(agree::read(&sheet(&[line])), Err(NotRead::BadLine(2)), "{line}");
+/// Every byte beside those where a number gains a digit or a range begins or ends, both ways round.
+fn pairs() -> impl Iterator<Item = (u8, u8)> {
+    let edges = [0, 1, 2, 3, 4, 8, 9, 10, 11, 99, 100, 127, 128, 255];
+    (0..=255)
+        .flat_map(move |byte| edges.into_iter().flat_map(move |edge| [(byte, edge), (edge, byte)]))
 }
 
 #[test]
 fn idents_and_answers() {
-    for ident in 0..=255 {
-        for answer in 0..=255 {
-            let good = ident <= 3 && (answer == 0 || (3..=10).contains(&answer));
-            stands(Record::Answer { clock: 7, ident, answer }, good);
-        }
+    for (ident, answer) in pairs() {
+        let good = ident <= 3 && (answer == 0 || (3..=10).contains(&answer));
+        stands(Record::Answer { clock: 7, ident, answer }, good);
     }
 }
 
 #[test]
 fn channels_and_currents() {
-    for channel in 0..=255 {
-        for current in 0..=255 {
-            let good = (1..=8).contains(&channel) && (1..=127).contains(&current);
-            stands(Record::Pulse { clock: 7, channel, width: 100, current }, good);
-        }
+    for (channel, current) in pairs() {
+        let good = (1..=8).contains(&channel) && (1..=127).contains(&current);
+        stands(Record::Pulse { clock: 7, channel, width: 100, current }, good);
     }
 }
 
 #[test]
 fn widths() {
-    for width in 0..=u16::MAX {
-        for current in [1, 10, 127] {
-            let good = (10..=500).contains(&width);
-            stands(Record::Pulse { clock: 7, channel: 8, width, current }, good);
-        }
+    let far = (1_200..u16::MAX).step_by(31).chain([u16::MAX]);
+    for width in (0..1_200).chain(far) {
+        let good = (10..=500).contains(&width);
+        stands(Record::Pulse { clock: 7, channel: 8, width, current: 10 }, good);
     }
 }
 
-/// Each good width beside each good current.
+/// Every good value of each field beside every one of the others.
 #[test]
-fn widths_and_currents() {
-    for width in 10..=500 {
-        for current in 1..=127 {
-            stands(Record::Pulse { clock: 12_345, channel: 1, width, current }, true);
-        }
+fn pulses() {
+    for channel in 1..=8 {
+        let pulse = |width, current| Record::Pulse { clock: 12_345, channel, width, current };
+        let all = (10..=500).flat_map(|width| (1..=127).map(move |current| pulse(width, current)));
+        both_ways(&all.collect::<Vec<_>>());
     }
 }
 
@@ -79,13 +75,21 @@ fn clocks() {
     });
     let twos = (0..32).map(|bits| 1 << bits);
     let around = |clock: u32| (0..=2).map(move |more| clock.saturating_add(more).saturating_sub(1));
-    let spread = (0..=u32::MAX).step_by(99_991);
+    let spread = (0..=u32::MAX).step_by(999_983);
     for clock in tens.chain(twos).flat_map(around).chain(0..11_000).chain(spread).chain([u32::MAX])
     {
         stands(Record::Answer { clock, ident: 0, answer: 10 }, true);
         stands(Record::Pulse { clock, channel: 1, width: 10, current: 1 }, true);
         stands(Record::Trip { clock, cause: 1 }, true);
     }
+}
+
+/// Every second of the clock, and then every clock of one.
+#[test]
+fn seconds() {
+    let seconds = (0..=u32::MAX / 10_000).map(|second| second * 10_000 + second % 7_296);
+    let trip = |clock| Record::Trip { clock, cause: 1 };
+    both_ways(&seconds.chain(10_000..20_000).map(trip).collect::<Vec<_>>());
 }
 
 /// Numbers that no record can hold.

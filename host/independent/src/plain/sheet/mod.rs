@@ -15,8 +15,8 @@ pub use write::write;
 /// "The header line is exactly `clock,kind,channel,width_us,current_ma,code`".
 const HEADER: &[u8; 44] = b"clock,kind,channel,width_us,current_ma,code\n";
 
-/// No line is longer than 28 bytes: of a pulse, 10 for its clock and 18 behind it. This is room for it,
-/// and for whole words at every place where one is read or written.
+/// Room for any line, of which a pulse's has up to 28 bytes, and for a word wherever one is read or
+/// written in it.
 const LINE: usize = 32;
 
 /// Behind the clock and before the rest of the line, eight bytes whatever the kind is; that of a pulse
@@ -25,5 +25,5 @@ const ANSWER: u64 = words::of(*b",answer,");
 const PULSE: u64 = words::of(*b",pulse,0");
 const TRIP: u64 = words::of(*b",trip,,,");
 
-/// A clock's digits are the last four and those before, which stay the same for a second.
+/// "The clock counts tenths of a millisecond": all digits but the last four stay the same for a second.
 const SECOND: u32 = 10_000;

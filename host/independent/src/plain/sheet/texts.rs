@@ -1,9 +1,11 @@
 //! The fields of a pulse behind its channel, with what stands around them. In the highest byte is how
-//! many bytes a text has; a number out of range has none.
+//! many bytes a text has; that of a number out of range is no text.
+
+const NONE: u64 = u64::MAX;
 
 /// "Width 10 to 500", between its commas.
 pub static WIDTHS: [u64; 512] = {
-    let mut texts = [0; 512];
+    let mut texts = [NONE; 512];
     let mut width = 10;
     while width <= 500 {
         texts[width] = spelt(b",", width, b",");
@@ -14,7 +16,7 @@ pub static WIDTHS: [u64; 512] = {
 
 /// "Current 1 to 127", and the end of the line.
 pub static CURRENTS: [u64; 128] = {
-    let mut texts = [0; 128];
+    let mut texts = [NONE; 128];
     let mut current = 1;
     while current <= 127 {
         texts[current] = spelt(b"", current, b",\n");

@@ -1,10 +1,11 @@
 //! A clock at the front of its line.
 
-use crate::plain::sheet::digits::{none, of_eight, of_four};
+use crate::plain::sheet::digits::{of_eight, of_four, others};
 use crate::plain::sheet::words::{all, of, word};
 use crate::plain::sheet::{LINE, SECOND};
 
-/// What the clocks of one second begin with: lines come in their order, and many in a second.
+/// What the clocks of one second begin with, and the first of them. Lines come in their order, and many
+/// in a second: that the next clock is as long is foretold, and its line is not waited for.
 #[derive(Clone)]
 pub struct Clock {
     text: u64,
@@ -25,14 +26,15 @@ impl Clock {
         }
         let text = word(line, 0);
         let digits = text ^ all(b'0');
-        let none = none(digits);
-        if none << 24 != 0 {
+        let others = others(digits);
+        // One of the first five.
+        if others << 24 != 0 {
             return below_a_second(line);
         }
-        let length = match none {
+        let length = match others {
             0 if line[8].is_ascii_digit() => 5 + usize::from(line[9].is_ascii_digit()),
             0 => 4,
-            _ => none.trailing_zeros() as usize / 8 - 4,
+            _ => others.trailing_zeros() as usize / 8 - 4,
         };
         let second = of_eight(digits << (64 - 8 * length));
         if digits as u8 == 0 || second > u32::MAX / SECOND {
@@ -42,7 +44,7 @@ impl Clock {
         self.same_second(line)
     }
 
-    /// If it begins as the last one did, and four digits follow.
+    /// The clock if it begins as the last one did, four digits follow and a comma.
     #[inline(always)]
     fn same_second(&self, line: &[u8; LINE]) -> Option<(u32, usize)> {
         if (word(line, 0) ^ self.text) & self.mask != 0 {
@@ -50,6 +52,7 @@ impl Clock {
         }
         let length = self.length & 7;
         let last = word(line, length) ^ of(*b"0000,\0\0\0");
+        // As with all digits of a word, and no bit of the comma is left.
         if (last.wrapping_add(0x7676_7676) | last) & 0xFF_8080_8080 != 0 {
             return None;
         }

@@ -2,6 +2,7 @@
 
 use super::clock::Clock;
 use crate::plain::ring::{answer, pulse, trip};
+use crate::plain::sheet::digits::{of_one, of_three, of_two, three};
 use crate::plain::sheet::texts::{CURRENTS, WIDTHS};
 use crate::plain::sheet::words::word;
 use crate::plain::sheet::{ANSWER, LINE, PULSE, TRIP};
@@ -42,19 +43,20 @@ pub fn line(line: &[u8; LINE], clock: &mut Clock, record: &mut [u8; 9]) -> Optio
     }
 }
 
-/// A width between its commas, and where that ends. Whatever stands there is taken for digits; if it is
-/// none, or out of range, another text is written for the number.
+/// A width between its commas, and where that ends.
+///
+/// What stands there is taken for digits. If it is none, or not those of a width, then that number has
+/// another text.
 #[inline(always)]
 fn width(line: &[u8; LINE], at: usize) -> Option<(u16, usize)> {
     let text = word(line, at);
-    let two = 10 * digit(line, at + 1) + digit(line, at + 2);
+    let digits = three(text >> 8);
     if line[at + 3] == b',' {
-        let same = (text ^ WIDTHS.get(two)?) << 32 == 0;
-        same.then_some((two as u16, at + 4))
+        let width = of_two(digits);
+        same(text, *WIDTHS.get(width)?, 4).then_some((width as u16, at + 4))
     } else {
-        let three = 10 * two + digit(line, at + 3);
-        let same = (text ^ WIDTHS.get(three)?) << 24 == 0;
-        same.then_some((three as u16, at + 5))
+        let width = of_three(digits);
+        same(text, *WIDTHS.get(width)?, 5).then_some((width as u16, at + 5))
     }
 }
 
@@ -62,23 +64,21 @@ fn width(line: &[u8; LINE], at: usize) -> Option<(u16, usize)> {
 #[inline(always)]
 fn current(line: &[u8; LINE], at: usize) -> Option<(u8, usize)> {
     let text = word(line, at);
-    let one = digit(line, at);
+    let digits = three(text);
     if line[at + 1] == b',' {
-        let same = (text ^ CURRENTS.get(one)?) << 40 == 0;
-        return same.then_some((one as u8, at + 3));
+        let current = of_one(digits);
+        same(text, *CURRENTS.get(current)?, 3).then_some((current as u8, at + 3))
+    } else if line[at + 2] == b',' {
+        let current = of_two(digits);
+        same(text, *CURRENTS.get(current)?, 4).then_some((current as u8, at + 4))
+    } else {
+        let current = of_three(digits);
+        same(text, *CURRENTS.get(current)?, 5).then_some((current as u8, at + 5))
     }
-    let two = 10 * one + digit(line, at + 1);
-    if line[at + 2] == b',' {
-        let same = (text ^ CURRENTS.get(two)?) << 32 == 0;
-        return same.then_some((two as u8, at + 4));
-    }
-    let three = 10 * two + digit(line, at + 2);
-    let same = (text ^ CURRENTS.get(three)?) << 24 == 0;
-    same.then_some((three as u8, at + 5))
 }
 
-/// What a byte is as a digit, or a great number.
+/// Whether two texts begin with the same bytes.
 #[inline(always)]
-fn digit(line: &[u8; LINE], at: usize) -> usize {
-    usize::from(line[at].wrapping_sub(b'0'))
+fn same(one: u64, other: u64, bytes: u32) -> bool {
+    (one ^ other) << (64 - 8 * bytes) == 0
 }

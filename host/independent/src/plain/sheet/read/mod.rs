@@ -11,11 +11,9 @@ use super::{HEADER, LINE};
 use crate::sheet::NotRead;
 use lines::Lines;
 
-/// Any record has room behind one that ends here.
-const BEHIND: usize = 8;
-
-/// The bytes of a full ring, and of a few records. These need little room, which is cleared sooner.
-const FULL: usize = 4096 + BEHIND;
+/// The bytes of a full ring, the last record with room for any, and of a few records. These need little,
+/// which is cleared sooner.
+const FULL: usize = 4096 + 8;
 const FEW: usize = 256;
 
 /// Reads a sheet, and puts its records to the start of `out` as a readout has them. Hands back how many
@@ -25,7 +23,7 @@ pub fn read(sheet: &[u8], out: &mut [u8]) -> Result<usize, NotRead> {
     let lines = sheet.strip_prefix(HEADER).ok_or(NotRead::BadLine(1))?;
     let mut end = [0; 2 * LINE];
     end[..LINE].copy_from_slice(&sheet[sheet.len() - LINE..]);
-    // A record has fewer bytes than its line.
+    // A record has little more than half as many bytes as its line.
     if lines.len() <= FEW {
         by_holding::<FEW>(Lines::of(lines, &end), out)
     } else {

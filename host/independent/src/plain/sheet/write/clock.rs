@@ -4,7 +4,7 @@ use crate::plain::sheet::digits::{eight, four};
 use crate::plain::sheet::words::{all, put};
 use crate::plain::sheet::{LINE, SECOND};
 
-/// What the clocks of one second begin with: records come in their order, and many in a second.
+/// What the clocks of one second begin with. Records come in their order, and many in a second.
 #[derive(Clone, Copy)]
 pub struct Clock {
     second: u32,

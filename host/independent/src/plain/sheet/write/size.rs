@@ -45,7 +45,8 @@ fn bad(from: &[u8]) -> u8 {
     }
 }
 
-/// The bytes of a line whose numbers have one digit, and each digit more; none if one is out of range.
+/// The bytes of the shortest line but its clock's, those of the clock, and of each digit more. None if a
+/// field is out of range.
 #[inline(always)]
 fn pulse(record: &[u8; 9]) -> Option<usize> {
     let [_, clock @ .., channel, low, high, current] = record;
