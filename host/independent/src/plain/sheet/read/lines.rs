@@ -6,7 +6,7 @@ use crate::plain::sheet::LINE;
 use crate::sheet::NotRead;
 
 /// The last bytes of a sheet, and zeros behind them, which no line has.
-pub type End = [u8; 2 * LINE];
+type End = [u8; 2 * LINE];
 
 /// The lines that are not read yet, and the number of the last one that is.
 #[derive(Clone)]
