@@ -6,12 +6,12 @@ use crate::progress::Progress;
 use crate::words::thousands;
 use clap::Args;
 use soak::met::Met;
-use soak::{history, packets, pairs};
+use soak::{history, packets, pairs, sheets};
 
-/// Make random calls on the box and on packets, and compare every call with independent code
+/// Make random calls on the box, on packets and on sheets, and compare every call with independent code
 ///
-/// Prints what the histories and the packets came across, and stops at the first difference with exit
-/// status 1.
+/// Prints what the histories, the packets and the sheets came across, and stops at the first difference
+/// with exit status 1.
 #[derive(Args)]
 #[command(after_help = "\
 Example:
@@ -22,7 +22,8 @@ pub struct Soak {
     #[arg(value_parser = number::count, allow_negative_numbers = true)]
     calls: u64,
 
-    /// The first seed; the next histories and packets have the next seeds. A failing one repeats its own
+    /// The first seed; the next histories, packets and sheets have the next seeds. A failing one repeats
+    /// its own
     #[arg(long, value_name = "SEED", default_value_t = 1)]
     #[arg(value_parser = number::count, allow_negative_numbers = true)]
     seed: u64,
@@ -33,7 +34,8 @@ impl Soak {
         let mut met = Met::default();
         let ran = self.soak(&mut met);
         let calls = met.all_calls();
-        for (what, count) in [met.of_histories(), met.of_pairs(), met.of_packets()].concat() {
+        let met = [met.of_histories(), met.of_pairs(), met.of_packets(), met.of_sheets()];
+        for (what, count) in met.concat() {
             writeln!(out, "{}", line(&what, count, calls))?;
         }
         ran?;
@@ -47,6 +49,7 @@ impl Soak {
             history::run(seed, met)?;
             pairs::run(seed, met)?;
             packets::run(seed, met)?;
+            sheets::run(seed, met)?;
             let done = met.all_calls();
             progress.done(done.min(self.calls));
             if done >= self.calls {

@@ -4,8 +4,8 @@
 //! record every byte.
 //!
 //! `history` is that trial, `pairs` that of two boxes of which one has the tighter profile, and
-//! `packets` that of each device's packets, read and written beside the independent codec. All are
-//! fixed by their seed. `met` counts what they came across: a trial that met nothing shows nothing.
+//! `packets` that of each device's packets, read and written beside the independent codec, and `sheets`
+//! that of the trace as a text sheet. All are fixed by their seed. `met` counts what they came across: a trial that met nothing shows nothing.
 //! `alike` puts the independent machine's numbers into the library's records. `sessions` has
 //! histories of bytes and ticks alone, for programs that play them.
 
@@ -15,6 +15,7 @@ pub mod met;
 pub mod packets;
 pub mod pairs;
 pub mod sessions;
+pub mod sheets;
 
 mod act;
 mod damage;
@@ -23,6 +24,7 @@ mod frames;
 mod jump;
 mod lent;
 mod numbers;
+mod output;
 mod pick;
 mod profiles;
 #[path = "../../tests/shared/random_bytes.rs"]
@@ -31,6 +33,8 @@ mod random_bytes;
 mod random_packets;
 #[path = "../../tests/shared/random_pulses.rs"]
 mod random_pulses;
+#[path = "../../tests/shared/random_sheets.rs"]
+mod random_sheets;
 mod three;
 
 pub use failure::Failure;

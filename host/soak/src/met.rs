@@ -3,6 +3,7 @@
 use crate::packets::rehamove3::RehaMove3;
 use crate::packets::rehastim2::RehaStim2;
 use crate::packets::Counts;
+use crate::sheets;
 use crate::three::Call;
 use std::collections::BTreeMap;
 use yarrowbell::raw::{BoxRecord, Said};
@@ -63,12 +64,14 @@ pub struct Met {
     pub pair_lax_pulses: u64,
     pub(crate) rehastim2: Counts,
     pub(crate) rehamove3: Counts,
+    pub(crate) sheets: sheets::Counts,
 }
 
 impl Met {
     /// The calls of all trials.
     pub fn all_calls(&self) -> u64 {
-        self.calls + self.pair_calls + self.rehastim2.calls + self.rehamove3.calls
+        let packets = self.rehastim2.calls + self.rehamove3.calls;
+        self.calls + self.pair_calls + packets + self.sheets.calls
     }
 
     pub fn made(&mut self, answer: u32) {
@@ -228,6 +231,11 @@ impl Met {
     /// The same of packets.
     pub fn of_packets(&self) -> Vec<(String, u64)> {
         [self.rehastim2.lines::<RehaStim2>(), self.rehamove3.lines::<RehaMove3>()].concat()
+    }
+
+    /// The same of sheets.
+    pub fn of_sheets(&self) -> Vec<(String, u64)> {
+        self.sheets.lines()
     }
 }
 

@@ -1,7 +1,7 @@
 //! The soak for the gate: long enough to meet everything that there is to meet.
 
 use soak::met::Met;
-use soak::{history, packets, pairs};
+use soak::{history, packets, pairs, sheets};
 
 /// How often each thing must have been met at least.
 const OFTEN: u64 = 40;
@@ -43,4 +43,15 @@ fn packets_of_every_device() {
         packets::run(seed, &mut met).unwrap_or_else(|failure| panic!("{failure}"));
     }
     all_met(met.of_packets(), OFTEN);
+}
+
+#[test]
+fn readouts_as_sheets() {
+    let mut met = Met::default();
+    let mut seeds = 5_000_000..;
+    while met.all_calls() < 100_000 {
+        let seed = seeds.next().expect("there are seeds enough");
+        sheets::run(seed, &mut met).unwrap_or_else(|failure| panic!("{failure}"));
+    }
+    all_met(met.of_sheets(), OFTEN);
 }

@@ -13,7 +13,9 @@ pub enum BadLine {
     #[error("the line is not ended by a line feed")]
     Unended,
     /// The line ends as those of another system do.
-    #[error("a carriage return stands before the line feed, and a line ends with a line feed alone")]
+    #[error(
+        "a carriage return stands before the line feed, and a line ends with a line feed alone"
+    )]
     CarriageReturn,
     /// The sheet begins with the mark that some programs put before a text.
     #[error("a byte order mark stands before the header")]

@@ -29,6 +29,14 @@ impl NotRead {
         }
     }
 
+    /// The number of the first bad line, if one is.
+    pub fn line(&self) -> Option<usize> {
+        match self {
+            NotRead::BadLine { line, .. } => Some(*line),
+            NotRead::OutputTooShort => None,
+        }
+    }
+
     /// What the library gave as its answer to this sheet, with the number of a bad line.
     pub(super) fn known(answer: Answer, sheet: &[u8], line: usize) -> NotRead {
         match answer {

@@ -32,7 +32,7 @@ macro_rules! layouts {
 }
 
 fn all() -> Vec<Layout> {
-    [of_frames_rings_and_boxes(), of_the_rehastim2(), of_the_rehamove3()]
+    [of_frames_rings_and_boxes(), of_sheets(), of_the_rehastim2(), of_the_rehamove3()]
         .into_iter()
         .flatten()
         .collect()
@@ -63,6 +63,14 @@ fn of_frames_rings_and_boxes() -> Vec<Layout> {
         Said { answer, reply, a, b }
         Made { answer, made }
         Called { said, next }
+    }
+}
+
+fn of_sheets() -> Vec<Layout> {
+    use yarrowbell::raw::sheet::*;
+    layouts! {
+        Written { answer, used }
+        Read { answer, line, used }
     }
 }
 

@@ -2,14 +2,13 @@
 //!
 //! A module of each device has `agree`, which compares one call with the independent codec, and `alike`,
 //! the codec's packets in the library's records and calls. What the devices share stands beside them:
-//! `trial` runs them, `lent` has an output, `row` the bytes, and `counts` what was met.
+//! `trial` runs them, `row` has the bytes, and `counts` what was met.
 
 pub mod rehamove3;
 pub mod rehastim2;
 
 mod counts;
 mod device;
-mod lent;
 mod row;
 mod trial;
 

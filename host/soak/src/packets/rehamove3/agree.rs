@@ -4,7 +4,7 @@
 
 use super::alike;
 use crate::failure::same;
-use crate::packets::lent::Lent;
+use crate::output::Output;
 use crate::packets::{known, Written};
 use independent::rehamove3::{self as independently, Command, Pulse, Reading};
 use yarrowbell::calls::rehamove3 as calls;
@@ -21,22 +21,22 @@ pub fn read(bytes: &[u8], room: usize) -> Result<Reading, String> {
     let ReadPacket { used, charge, command, size, answer, packet, .. } = all;
     let of = |number, value: u8| if command == number { value } else { 0 };
     let told = |what: &str| format!("{what} on {bytes:02X?}, room {room}");
-    let lent = Lent { room, first: &expected.data, told };
+    let output = Output { room, first: &expected.data, told };
 
     for other in [false, true] {
-        lent.same("read", other, all, |out| calls::read(bytes, out))?;
+        output.same("read", other, all, |out| calls::read(bytes, out))?;
     }
 
     let voltage = all.voltage.into();
     let init = ReadVoltage { used, answer, packet, command, size, voltage };
-    lent.same("read_ll_init", false, init, |out| calls::read_ll_init(bytes, out))?;
+    output.same("read_ll_init", false, init, |out| calls::read_ll_init(bytes, out))?;
 
     let with_result = |result: u8| {
         let result = result.into();
         ReadResult { used, answer, packet, command, size, result }
     };
     let ack = with_result(of(1, all.result));
-    lent.same("read_ll_init_ack", true, ack, |out| calls::read_ll_init_ack(bytes, out))?;
+    output.same("read_ll_init_ack", true, ack, |out| calls::read_ll_init_ack(bytes, out))?;
 
     let ReadPacket { execution, channel, points, .. } = all;
     let config = ReadConfig {
@@ -52,18 +52,18 @@ pub fn read(bytes: &[u8], room: usize) -> Result<Reading, String> {
         points,
     };
     let call = |out: &mut [u8]| calls::read_ll_channel_config(bytes, out);
-    lent.same("read_ll_channel_config", false, config, call)?;
+    output.same("read_ll_channel_config", false, config, call)?;
 
     let (result, electrode) = (of(3, all.result), all.electrode);
     let ack = ReadElectrode { used, answer, packet, command, size, result, electrode };
     let call = |out: &mut [u8]| calls::read_ll_channel_config_ack(bytes, out);
-    lent.same("read_ll_channel_config_ack", true, ack, call)?;
+    output.same("read_ll_channel_config_ack", true, ack, call)?;
 
     let stop = ReadEmpty { used, answer: answer.into(), packet: packet.into(), command, size };
-    lent.same("read_ll_stop", false, stop, |out| calls::read_ll_stop(bytes, out))?;
+    output.same("read_ll_stop", false, stop, |out| calls::read_ll_stop(bytes, out))?;
 
     let ack = with_result(of(5, all.result));
-    lent.same("read_ll_stop_ack", true, ack, |out| calls::read_ll_stop_ack(bytes, out))?;
+    output.same("read_ll_stop_ack", true, ack, |out| calls::read_ll_stop_ack(bytes, out))?;
 
     let wrapped = match expected.command {
         Some(command) => Ok(rehamove3::Packet {
@@ -75,7 +75,7 @@ pub fn read(bytes: &[u8], room: usize) -> Result<Reading, String> {
         }),
         None => Err((known(answer), used)),
     };
-    lent.same("rehamove3::read", false, wrapped, |out| {
+    output.same("rehamove3::read", false, wrapped, |out| {
         rehamove3::read(bytes, out).map_err(|why| (why.answer(), why.used()))
     })?;
     Ok(expected)
@@ -89,14 +89,14 @@ pub fn write(packet: u8, command: Command, room: usize) -> Result<Written, Strin
         Some(bytes) => Ok(bytes),
     };
     let told = |what: &str| format!("{what} on packet number {packet}, {command:?}, room {room}");
-    let lent = Lent { room, first: expected.as_deref().unwrap_or_default(), told };
+    let output = Output { room, first: expected.as_deref().unwrap_or_default(), told };
 
     let report = match &expected {
         Ok(bytes) => Wrote { answer: 0, used: bytes.len() as u8 },
         Err(answer) => Wrote { answer: *answer, used: 0 },
     };
     let call = |out: &mut [u8]| alike::write(packet, command, out).unwrap_or(report);
-    lent.same("the export", true, report, call)?;
+    output.same("the export", true, report, call)?;
 
     if let Some(wrapped) = alike::command(&command) {
         let report = match &expected {
@@ -108,7 +108,7 @@ pub fn write(packet: u8, command: Command, room: usize) -> Result<Written, Strin
             }),
         };
         let call = |out: &mut [u8]| rehamove3::write(packet, &wrapped, out);
-        lent.same("rehamove3::write", false, report, call)?;
+        output.same("rehamove3::write", false, report, call)?;
     }
     Ok(expected)
 }

@@ -5,7 +5,7 @@ pub mod alike;
 mod own;
 
 use super::device::{Device, Seen, SeenPacket, Sent};
-use super::{lent, Counts};
+use super::Counts;
 use crate::met::Met;
 use crate::pick::once_in;
 use crate::random_pulses::{command, packet};
@@ -15,7 +15,7 @@ use rand::Rng;
 use yarrowbell::rehamove3::{LONGEST_DATA, LONGEST_PACKET, LONGEST_WRITTEN};
 
 /// The longest output that is lent.
-pub const ROOM: usize = lent::LONGEST;
+pub const ROOM: usize = 1_200;
 
 /// The device.
 pub struct RehaMove3;

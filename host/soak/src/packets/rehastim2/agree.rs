@@ -2,7 +2,7 @@
 //! independent codec. All of them report the same, and leave the same in an output and around it.
 
 use super::alike;
-use crate::packets::lent::Lent;
+use crate::output::Output;
 use crate::packets::{known, Written};
 use independent::rehastim2::{self as independently, Command, Reading};
 use yarrowbell::calls::rehastim2 as calls;
@@ -19,15 +19,15 @@ pub fn read(bytes: &[u8], room: usize) -> Result<Reading, String> {
     let ReadPacket { used, answer, packet, command, size, .. } = all;
     let of = |number, value: i8| if command == number { value } else { 0 };
     let told = |what: &str| format!("{what} on {bytes:02X?}, room {room}");
-    let lent = Lent { room, first: &expected.data, told };
+    let output = Output { room, first: &expected.data, told };
 
     for other in [false, true] {
-        lent.same("read", other, all, |out| calls::read(bytes, out))?;
+        output.same("read", other, all, |out| calls::read(bytes, out))?;
     }
 
     let version = all.version.into();
     let init = ReadVersion { used, answer, packet, command, size, version };
-    lent.same("read_init", false, init, |out| calls::read_init(bytes, out))?;
+    output.same("read_init", false, init, |out| calls::read_init(bytes, out))?;
 
     let with_result = |result| ReadResult {
         used,
@@ -38,12 +38,12 @@ pub fn read(bytes: &[u8], room: usize) -> Result<Reading, String> {
         result,
     };
     let ack = with_result(of(2, all.result));
-    lent.same("read_init_ack", true, ack, |out| calls::read_init_ack(bytes, out))?;
+    output.same("read_init_ack", true, ack, |out| calls::read_init_ack(bytes, out))?;
 
     let echo = all.echo.into();
     let unknown = ReadEcho { used, answer, packet, command, size, echo };
     let call = |out: &mut [u8]| calls::read_unknown_command(bytes, out);
-    lent.same("read_unknown_command", false, unknown, call)?;
+    output.same("read_unknown_command", false, unknown, call)?;
 
     let empty = ReadEmpty {
         used,
@@ -52,9 +52,9 @@ pub fn read(bytes: &[u8], room: usize) -> Result<Reading, String> {
         command: command.into(),
         size: size.into(),
     };
-    lent.same("read_watchdog", true, empty, |out| calls::read_watchdog(bytes, out))?;
+    output.same("read_watchdog", true, empty, |out| calls::read_watchdog(bytes, out))?;
     let call = |out: &mut [u8]| calls::read_get_stimulation_mode(bytes, out);
-    lent.same("read_get_stimulation_mode", false, empty, call)?;
+    output.same("read_get_stimulation_mode", false, empty, call)?;
 
     let mode = ReadMode {
         used,
@@ -66,7 +66,7 @@ pub fn read(bytes: &[u8], room: usize) -> Result<Reading, String> {
         mode: all.mode,
     };
     let call = |out: &mut [u8]| calls::read_get_stimulation_mode_ack(bytes, out);
-    lent.same("read_get_stimulation_mode_ack", true, mode, call)?;
+    output.same("read_get_stimulation_mode_ack", true, mode, call)?;
 
     let ReadPacket { factor, active, lf, inter, main, execution, .. } = all;
     let (main, execution) = (main.into(), execution.into());
@@ -84,11 +84,11 @@ pub fn read(bytes: &[u8], room: usize) -> Result<Reading, String> {
         execution,
     };
     let call = |out: &mut [u8]| calls::read_init_channel_list_mode(bytes, out);
-    lent.same("read_init_channel_list_mode", false, list, call)?;
+    output.same("read_init_channel_list_mode", false, list, call)?;
 
     let ack = with_result(of(31, all.result));
     let call = |out: &mut [u8]| calls::read_init_channel_list_mode_ack(bytes, out);
-    lent.same("read_init_channel_list_mode_ack", true, ack, call)?;
+    output.same("read_init_channel_list_mode_ack", true, ack, call)?;
 
     let wrapped = match expected.command {
         Some(command) => Ok(rehastim2::Packet {
@@ -99,7 +99,7 @@ pub fn read(bytes: &[u8], room: usize) -> Result<Reading, String> {
         }),
         None => Err((known(answer), used)),
     };
-    lent.same("rehastim2::read", false, wrapped, |out| {
+    output.same("rehastim2::read", false, wrapped, |out| {
         rehastim2::read(bytes, out).map_err(|why| (why.answer(), why.used()))
     })?;
     Ok(expected)
@@ -113,20 +113,20 @@ pub fn write(packet: u8, command: Command, room: usize) -> Result<Written, Strin
         Some(bytes) => Ok(bytes),
     };
     let told = |what: &str| format!("{what} on packet number {packet}, {command:?}, room {room}");
-    let lent = Lent { room, first: expected.as_deref().unwrap_or_default(), told };
+    let output = Output { room, first: expected.as_deref().unwrap_or_default(), told };
 
     let report = match &expected {
         Ok(bytes) => Wrote { answer: 0, used: bytes.len() as u8 },
         Err(answer) => Wrote { answer: *answer, used: 0 },
     };
     let call = |out: &mut [u8]| alike::write(packet, command, out).unwrap_or(report);
-    lent.same("the export", true, report, call)?;
+    output.same("the export", true, report, call)?;
 
     let wrapped = match &expected {
         Ok(bytes) => Ok(bytes.len()),
         Err(answer) => Err(known(*answer)),
     };
-    lent.same("rehastim2::write", false, wrapped, |out| {
+    output.same("rehastim2::write", false, wrapped, |out| {
         let command = alike::command(&command);
         rehastim2::write(packet, &command, out).map_err(NotWritten::answer)
     })?;

@@ -1,23 +1,20 @@
-//! Outputs that are lent to a call on packets.
+//! Outputs that are lent to a call on packets or sheets.
 
 use crate::failure::{same, same_bytes};
 use std::fmt::Debug;
 
-/// The longest output that is lent.
-pub const LONGEST: usize = 1_200;
 /// What lies on either side of an output and must not be touched.
 const GUARD: usize = 16;
-const WHOLE: usize = GUARD + LONGEST + GUARD;
 
 /// An output of `room` bytes within a larger buffer, of which a call may change the first bytes, to
 /// these. `told` tells what was compared, of which call.
-pub struct Lent<'a, F> {
+pub struct Output<'a, F> {
     pub room: usize,
     pub first: &'a [u8],
     pub told: F,
 }
 
-impl<F: Fn(&str) -> String> Lent<'_, F> {
+impl<F: Fn(&str) -> String> Output<'_, F> {
     /// Calls, and compares the report, the output and what lies around it.
     ///
     /// A byte of the filling is nowhere equal to that of the other, so that a byte written stands out
@@ -31,29 +28,26 @@ impl<F: Fn(&str) -> String> Lent<'_, F> {
     ) -> Result<(), String> {
         let turned = if other { 0xFF } else { 0 };
         let whole = GUARD + self.room + GUARD;
-        let (found, left) = (&mut [0; WHOLE][..whole], &mut [0; WHOLE][..whole]);
-        for (place, byte) in found.iter_mut().enumerate() {
-            *byte = (place * 37 + 11) as u8 ^ turned;
-        }
-        left.copy_from_slice(found);
+        let mut found: Vec<u8> = (0..whole).map(|place| (place * 37 + 11) as u8 ^ turned).collect();
+        let mut left = found.clone();
         left[GUARD..][..self.first.len()].copy_from_slice(self.first);
         let report = call(&mut found[GUARD..][..self.room]);
         let told = |what: &str| (self.told)(&format!("{what} of {name}"));
         same(&report, &expected, || told("the report"))?;
         let [out, left_out] = [&found, &left].map(|whole| &whole[GUARD..][..self.room]);
         same_bytes(out, left_out, || told("the output"))?;
-        same_bytes(found, left, || told("the memory around the output"))
+        same_bytes(&found, &left, || told("the memory around the output"))
     }
 }
 
 #[cfg(test)]
 mod tests {
-    use super::Lent;
+    use super::Output;
 
     /// A call that is to write 7 and 8 to an output of four bytes, and to report that it wrote two.
     fn told(call: impl FnOnce(&mut [u8]) -> usize) -> Result<(), String> {
         let told = |what: &str| format!("{what}, room 4");
-        Lent { room: 4, first: &[7, 8], told }.same("a call", false, 2, call)
+        Output { room: 4, first: &[7, 8], told }.same("a call", false, 2, call)
     }
 
     fn right(out: &mut [u8]) -> usize {

@@ -58,3 +58,16 @@ fn bad_records() {
         assert_eq!(agree::write(&[&bad[..], &[4]].concat()), Err(14));
     });
 }
+
+/// A million records, and then the same with the last line bad.
+#[test]
+fn a_million_records() {
+    seeded(3_000..3_001, |rng| {
+        let readout = random_sheets::readout(rng, 1_000_000);
+        let mut sheet = agree::write(&readout).expect("every field is in its range");
+        assert_eq!(agree::read_into(&sheet, readout.len()).as_ref(), Ok(&readout));
+        assert_eq!(agree::read_into(&sheet, readout.len() - 1), Err(NotRead::OutputTooShort));
+        sheet.pop();
+        assert_eq!(agree::read(&sheet), Err(NotRead::BadLine(1_000_001)));
+    });
+}
