@@ -67,7 +67,8 @@ impl Source {
         })
     }
 
-    fn bytes(&self) -> Result<Vec<u8>, BadInput> {
+    /// The bytes themselves, whatever they are.
+    pub fn bytes(&self) -> Result<Vec<u8>, BadInput> {
         let read = if self.is_standard_input() {
             let mut bytes = Vec::new();
             io::stdin().lock().read_to_end(&mut bytes).map(|_| bytes)

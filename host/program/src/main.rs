@@ -33,6 +33,7 @@ mod replay;
 mod script;
 mod session;
 mod setting;
+mod sheet;
 mod soaking;
 mod story;
 mod subcommands;

@@ -1,7 +1,7 @@
 //! The subcommands.
 
 use crate::failure::{Failure, Out};
-use crate::{bench, demo, lesson, packet, read, replay, script, soaking, trace, write};
+use crate::{bench, demo, lesson, packet, read, replay, script, sheet, soaking, trace, write};
 use clap::{Parser, Subcommand};
 use std::process::ExitCode;
 
@@ -30,6 +30,7 @@ enum Task {
     Read(read::Read),
     Write(write::Write),
     Trace(trace::Trace),
+    Sheet(sheet::Sheet),
     Packet(packet::Packet),
     Replay(replay::Replay),
     Session(script::Script),
@@ -44,6 +45,7 @@ pub fn run(arguments: Arguments, out: Out) -> Result<ExitCode, Failure> {
         Task::Read(read) => return read.run(out),
         Task::Write(write) => write.run(out)?,
         Task::Trace(trace) => trace.run(out)?,
+        Task::Sheet(sheet) => sheet.run(out)?,
         Task::Packet(packet) => return packet.run(out),
         Task::Replay(replay) => replay.run(out)?,
         Task::Session(script) => script.run(out)?,

@@ -39,8 +39,8 @@ enum To {
 
 impl Output {
     /// Writes all of it at once.
-    pub fn put(mut self, content: &str, out: Out) -> Result<(), Failure> {
-        self.write_all(content.as_bytes())?;
+    pub fn put(mut self, content: impl AsRef<[u8]>, out: Out) -> Result<(), Failure> {
+        self.write_all(content.as_ref())?;
         self.finish(out)
     }
 

@@ -1,14 +1,14 @@
 //! `yarrowbell replay`
 
+mod calls;
 mod events;
 mod line;
-mod sheet;
 
 use crate::against::Against;
 use crate::course::Courses;
 use crate::failure::{BadInput, Failure, Out};
 use crate::input::{self, Source};
-use crate::output::{Leaving, Outputs};
+use crate::output::{Leaving, Output, Outputs};
 use crate::picture::title;
 use crate::play::Step;
 use crate::session::Session;
@@ -17,7 +17,7 @@ use crate::{hex, number, profile, story};
 use clap::Args;
 use events::Events;
 use std::path::{Path, PathBuf};
-use yarrowbell::{Guard, Profile};
+use yarrowbell::{sheet, Guard, Profile};
 
 /// The names of two units beside each other, in words and in the events.
 const NAMES: [&str; 2] = ["the first", "the second"];
@@ -44,7 +44,8 @@ Example of a session, document 01's case 12:
 
 Examples:
   yarrowbell replay case12.session --profile lax.toml --against strict.toml --plot case12.svg
-  yarrowbell replay case12.session --profile lax.toml --events case12.csv")]
+  yarrowbell replay case12.session --profile lax.toml --events case12.csv
+  yarrowbell replay case12.session --sheet case12.csv")]
 pub struct Replay {
     /// The session file; - is standard input, here or for one of the profiles
     #[arg(value_name = "SESSION")]
@@ -80,10 +81,15 @@ pub struct Replay {
     #[arg(long, value_name = "OUT.csv")]
     events: Option<PathBuf>,
 
-    /// Print the ring's bytes in hex in a last line, for each unit; the sheet has them as a comment,
+    /// Print the ring's bytes in hex in a last line, for each unit; behind calls they are a comment,
     /// and the events have them at their end
     #[arg(long)]
     readout: bool,
+
+    /// Write the ring's records at the end as a text sheet; given twice, the second is the second
+    /// unit's
+    #[arg(long, value_name = "OUT.csv")]
+    sheet: Vec<PathBuf>,
 
     /// Draw what the unit did, or both units did
     #[arg(long, value_name = "OUT.svg")]
@@ -119,10 +125,12 @@ impl Replay {
         let mut outputs = Outputs::new(self.inputs());
         let plot = self.plot.as_deref().map(|path| outputs.plan(path)).transpose()?;
         let file = self.events.as_deref().map(|path| outputs.plan(path)).transpose()?;
+        let sheets = self.sheets(guards.len(), &mut outputs)?;
         let (names, short): (&[&str], &[&str]) =
             if guards.len() == 1 { (&["unit"], &["unit"]) } else { (&NAMES, &SHORT) };
 
-        let out: Out = &mut Leaving::new(out, plot.is_some() || file.is_some());
+        let files = plot.is_some() || file.is_some() || !sheets.is_empty();
+        let out: Out = &mut Leaving::new(out, files);
         let mut courses = Courses::of(guards.len());
         let mut against = Against::listing(self.all);
         let mut file = file.map(|file| Events::in_file(short, file));
@@ -141,7 +149,7 @@ impl Replay {
             units.push(guard);
         }
         let ends = if self.calls {
-            sheet::print(&session, &mut units, each, out)?
+            calls::print(&session, &mut units, each, out)?
         } else if self.json {
             events::print(&session, short, &mut units, self.readout, each, out)?
         } else {
@@ -161,10 +169,24 @@ impl Replay {
         if let Some(events) = file {
             events.finish(out)?;
         }
+        for (guard, file) in guards.iter().zip(sheets) {
+            let sheet = sheet::of(&guard.trace()).expect("a unit writes what is in range");
+            file.put(sheet, out)?;
+        }
         if let Some(plot) = plot {
             plot.put(&courses.drawn(&self.titles(), session.end(), self.all_lanes), out)?;
         }
         Ok(())
+    }
+
+    /// The files for the sheets, not more than there are units.
+    fn sheets(&self, units: usize, outputs: &mut Outputs) -> Result<Vec<Output>, BadInput> {
+        if self.sheet.len() > units {
+            let (files, s) = (self.sheet.len(), if units == 1 { "" } else { "s" });
+            let what = format!("{files} files for {units} unit{s}, and each has one sheet");
+            return Err(BadInput::argument("--sheet", what));
+        }
+        self.sheet.iter().map(|path| outputs.plan(path)).collect()
     }
 
     /// What stands above each unit's panel.
@@ -181,7 +203,7 @@ impl Replay {
         }
     }
 
-    /// The rings' bytes, if they are asked for: in the sheet as a comment, so that the CSV stays one.
+    /// The rings' bytes, if they are asked for: behind calls as a comment, so that the CSV stays one.
     fn print_readouts(&self, guards: &[Guard], out: Out) -> Result<(), Failure> {
         let mark = if self.calls { "# " } else { "" };
         for guard in guards.iter().filter(|_| self.readout) {

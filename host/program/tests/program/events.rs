@@ -136,8 +136,8 @@ fn whole_or_not_at_all() {
 }
 
 #[test]
-fn json_is_no_sheet() {
-    let ran = folder("json_is_no_sheet").line("replay s --json --calls");
+fn json_or_calls() {
+    let ran = folder("json_or_calls").line("replay s --json --calls");
     assert_eq!((ran.status, ran.out.as_str()), (2, ""));
     let message = "error: The argument '--json' cannot be used with '--calls'";
     assert_eq!(ran.err.lines().next(), Some(message));

@@ -8,7 +8,7 @@ use crate::seeded::seeded;
 use rand::rngs::SmallRng;
 use rand::Rng;
 use soak::sessions;
-use yarrowbell::Guard;
+use yarrowbell::{sheet, Guard};
 
 /// How many runs each test makes at least.
 const RUNS: u64 = 2_000;
@@ -219,6 +219,23 @@ fn readouts_to_trace() {
     });
 }
 
+#[test]
+fn readouts_to_write_as_sheets() {
+    let folder = Folder::new("fuzz_readouts_to_write");
+    fuzzed(&folder, 0, &["sheet write -"], |rng| {
+        let bytes = readout(rng);
+        spelt(rng, &bytes)
+    });
+}
+
+#[test]
+fn sheets_to_read() {
+    let folder = Folder::new("fuzz_sheets_to_read");
+    fuzzed(&folder, 0, &["sheet read -"], |rng| {
+        sheet::of(&readout(rng)).expect("a unit writes what is in range")
+    });
+}
+
 /// Packets, which are good or not by what is spoilt in them.
 #[test]
 fn packets_to_read() {
@@ -261,6 +278,8 @@ fn without_end() {
         "read -",
         "trace -",
         "trace - --start 3 --used 14",
+        "sheet write -",
+        "sheet read -",
         "packet read rehastim2 -",
         "packet read rehastim2 - --all --json",
         "packet read rehamove3 -",

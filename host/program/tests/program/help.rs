@@ -4,9 +4,15 @@ use crate::run;
 /// Exit status 0 for help that was asked for, 2 for a line that says too little.
 #[test]
 fn help_is_given() {
-    for (words, status) in
-        [("--help", 0), ("help", 0), ("", 2), ("write", 2), ("packet", 2), ("packet write", 2)]
-    {
+    for (words, status) in [
+        ("--help", 0),
+        ("help", 0),
+        ("", 2),
+        ("write", 2),
+        ("sheet", 2),
+        ("packet", 2),
+        ("packet write", 2),
+    ] {
         let ran = run::line(words);
         assert_eq!(ran.status, status, "{words}");
         let (help, other) = if status == 0 { (ran.out, ran.err) } else { (ran.err, ran.out) };
@@ -34,6 +40,7 @@ fn exit_statuses() {
 fn examples_work() {
     let folder = Folder::new("examples_work")
         .with("case12.session", "0 88 01 20 00 30 12\n300 end\n")
+        .with("case13.csv", "clock,kind,channel,width_us,current_ma,code\n100,pulse,1,200,40,\n")
         .with("day1.script", "at 0 init --channels 1,3 --group-time 3 --main-time 18\n")
         .with("lax.toml", "watchdog = 250\n")
         .with("strict.toml", "watchdog = 150\n");
@@ -46,6 +53,9 @@ fn examples_work() {
         "write update",
         "write stop",
         "trace",
+        "sheet",
+        "sheet write",
+        "sheet read",
         "packet",
         "packet read",
         "packet write",

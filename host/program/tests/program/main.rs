@@ -21,6 +21,7 @@ mod bad_scripts;
 mod bad_sessions;
 mod benchmark;
 mod beside;
+mod calls;
 mod checked;
 mod columns;
 mod demo;

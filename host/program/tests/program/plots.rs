@@ -25,7 +25,10 @@ fn one_unit() {
     }
     assert_eq!(folder.names(), ["p.svg", "p.toml", "s"]);
     assert_eq!(folder.line("replay s --profile p.toml --calls --plot q.svg").status, 0);
-    assert!(folder.text("q.svg") == picture, "the sheet has another picture than the story");
+    assert!(
+        folder.text("q.svg") == picture,
+        "beside the calls is another picture than beside the story"
+    );
 }
 
 #[test]

@@ -9,7 +9,7 @@ use rand::Rng;
 use serde_json::{Map, Value};
 use soak::sessions;
 
-/// The same file beside the story, the sheet and the JSON, and the JSON says the same; all of it is
+/// The same file beside the story, the calls and the JSON, and the JSON says the same; all of it is
 /// what the independent machine does.
 #[test]
 fn random_sessions() {

@@ -1,68 +1,160 @@
-//! The `--calls` and `--readout` of random sessions, compared with the independent machine.
+//! `sheet` and `replay --sheet`: what is written, read back, and refused.
 
 use crate::folder::Folder;
-use crate::independently::{played, text, toml, Call};
+use crate::independently::{played, text, toml};
+use crate::run;
 use crate::seeded::seeded;
+use independent::sheet::{read, write};
 use rand::Rng;
 use soak::sessions;
 
+const HEADER: &str = "clock,kind,channel,width_us,current_ma,code";
+
+const CASE_13: &str = "026400000001C80028 0273000000032C011E 0291000000032C011E";
+
+/// "Case 13 of 01, whole."
 #[test]
-fn random_sessions() {
-    let folder = Folder::new("random_sessions");
-    let [mut pulses, mut trips] = [0, 0];
-    seeded(0..600, |rng| {
+fn case_13() {
+    let lines = [HEADER, "100,pulse,1,200,40,", "115,pulse,3,300,30,", "145,pulse,3,300,30,"];
+    run::prints(&format!("sheet write {CASE_13}"), &lines);
+    let sheet = lines.join("\n") + "\n";
+    let folder = Folder::new("case_13_sheet").with("c.csv", &sheet);
+    let hex = "02 64 00 00 00 01 C8 00 28 02 73 00 00 00 03 2C 01 1E 02 91 00 00 00 03 2C 01 1E\n";
+    assert_eq!(folder.line("sheet read c.csv").out, hex);
+    assert_eq!(folder.fed("sheet read -", &sheet).out, hex);
+    assert_eq!(folder.fed("sheet write -", hex).out, sheet);
+}
+
+/// A line of each kind, and a sheet of no records.
+#[test]
+fn kinds() {
+    let lines = [HEADER, "0,answer,0,,,0", "100,pulse,1,200,40,", "255,trip,,,,2"];
+    run::prints("sheet write 01000000000000 026400000001C80028 03FF00000002", &lines);
+    let folder = Folder::new("no_records").with("empty.csv", format!("{HEADER}\n"));
+    let read = folder.line("sheet read empty.csv");
+    assert_eq!((read.status, read.out.as_str()), (0, "\n"));
+    assert_eq!(folder.fed("sheet write -", read.out).out, format!("{HEADER}\n"));
+}
+
+/// Into files, of text and of the bytes themselves, which are read again.
+#[test]
+fn files() {
+    let folder = Folder::new("sheet_files");
+    let wrote = folder.line(&format!("sheet write {CASE_13} --out c.csv"));
+    assert_eq!((wrote.status, wrote.out.as_str(), wrote.err.as_str()), (0, "", ""));
+    let read = folder.line("sheet read c.csv --binary c.readout");
+    assert_eq!((read.status, read.out.as_str(), read.err.as_str()), (0, "", ""));
+    let bytes = std::fs::read(folder.path().join("c.readout")).expect("it was written");
+    assert_eq!((bytes.len(), bytes[0]), (27, 2));
+    assert_eq!(folder.line("sheet write c.readout").out, folder.text("c.csv"));
+    assert_eq!(folder.names(), ["c.csv", "c.readout"]);
+    let kept = folder.text("c.csv");
+    folder.refuses(
+        "sheet read c.csv --binary c.csv",
+        "c.csv: cannot be written: it is the sheet that is read",
+    );
+    folder.refuses(
+        "sheet write c.readout --out c.readout",
+        "c.readout: cannot be written: it is the readout that is read",
+    );
+    assert_eq!(folder.text("c.csv"), kept);
+}
+
+/// "A refusal exits 2 with FILE:LINE: and the answer."
+#[test]
+fn bad_sheets() {
+    let folder = Folder::new("bad_sheets");
+    let bad = |content: &str, place: &str| {
+        folder.put("b.csv", content);
+        folder.refuses("sheet read b.csv", &format!("b.csv:{place} (answer 4: value not good)"));
+        folder.refuses(
+            "sheet read b.csv --binary out",
+            &format!("b.csv:{place} (answer 4: value not good)"),
+        );
+    };
+    let good = "100,pulse,1,200,40,";
+    bad("", &format!("1: the sheet is empty, and its first line is {HEADER}"));
+    bad("clock,kind\n", &format!("1: the header is not {HEADER}"));
+    bad(HEADER, "1: the line is not ended by a line feed");
+    bad(&format!("{HEADER}\n{good}\n{good}"), "3: the line is not ended by a line feed");
+    bad(
+        &format!("{HEADER}\n{good}\r\n"),
+        "2: a carriage return stands before the line feed, and a line ends with a line feed alone",
+    );
+    bad(
+        &format!("{HEADER}\n{good}\n100,pulse,1,600,40,\n"),
+        "3: width_us is 600, and a pulse has 10 to 500",
+    );
+    bad(
+        &format!("{HEADER}\n{good}\n\n"),
+        "3: the line has 1 field, and a record has six, with commas between them",
+    );
+    let message = "standard input:2: clock is \"+1\", and a number is digits alone \
+                   (answer 4: value not good)";
+    folder.refuses_fed("sheet read -", format!("{HEADER}\n+1,trip,,,,1\n"), message);
+    let ran = folder.line("sheet read nowhere.csv");
+    assert_eq!((ran.status, ran.out.as_str()), (2, ""));
+    assert!(ran.err.starts_with("nowhere.csv: "), "{}", ran.err);
+}
+
+#[test]
+fn bad_readouts() {
+    let folder = Folder::new("bad_readouts").with("r", "01000000000000\n02640000\n");
+    folder.refuses(
+        "sheet write r",
+        "r:2: the record at byte 7 (counted from 0) is cut short: one of kind 02 has 9 bytes, and 4 \
+         are there (answer 14: used ring bytes do not split into whole known records)",
+    );
+    folder.refuses(
+        "sheet write 03FF00000003",
+        "<HEX>...: the record at byte 0 (counted from 0) is a trip whose code is 3, where 1 to 2 is \
+         good (answer 4: value not good)",
+    );
+}
+
+/// The sheet of a session's ring is that of its readout, and reads back.
+#[test]
+fn of_random_sessions() {
+    let folder = Folder::new("of_random_sessions");
+    let mut lines = 0;
+    seeded(0..200, |rng| {
         let session = sessions::session(rng);
         folder.put("s", text(&session, rng.gen()));
         folder.put("p.toml", toml(&session.profile));
-        let line = format!("replay s --profile p.toml --capacity {} ", session.capacity);
-        let ran = folder.line(&(line + "--calls --readout"));
+        let line = format!("replay s --profile p.toml --capacity {}", session.capacity);
+        let ran = folder.line(&(line + " --sheet t.csv"));
         assert_eq!((ran.status, ran.err.as_str()), (0, ""));
-        let (calls, readout) = played(&session, session.profile);
-        let head = "clock,call,byte,answer,reply,channel,width_us,current_ma,trip".to_owned();
-        let readout = readout.iter().map(|byte| format!(" {}", hex(byte))).collect::<String>();
-        let lines = [head].into_iter().chain(calls.iter().map(line_of));
-        for (is, should) in ran.out.lines().zip(lines.chain([format!("#{readout}")])) {
-            assert_eq!(is, should);
-        }
-        assert_eq!(ran.out.lines().count(), 1 + calls.len() + 1);
-        pulses += calls.iter().filter_map(Call::pulse).count();
-        trips += calls.iter().filter(|call| call.trip.is_some()).count();
+        let (_, readout) = played(&session, session.profile);
+        let mut sheet = vec![0; 44 + 4 * readout.len()];
+        let size = write(&readout, &mut sheet).expect("a unit writes what is in range");
+        assert_eq!(folder.text("t.csv").as_bytes(), &sheet[..size]);
+        let mut back = vec![0; readout.len()];
+        assert_eq!(read(&sheet[..size], &mut back), Ok(readout.len()));
+        assert_eq!(back, readout);
+        lines += folder.text("t.csv").lines().count() - 1;
     });
-    assert!(pulses > 10_000, "{pulses} pulses show little");
-    assert!(trips > 500, "{trips} trips show little");
+    assert!(lines > 2_000, "{lines} lines show little");
 }
 
-/// A reader that skips comments reads all of it, with the readout behind the last line.
+/// Of two units each has its own, and a third is refused.
 #[test]
-fn a_whole_csv_with_the_readout() {
-    let folder = Folder::new("a_whole_csv")
+fn of_two_units() {
+    let folder = Folder::new("of_two_units")
         .with("s", "0 88 01 20 00 30 12\n5 BB 01 48 28 22 2C 1E\n300 end\n")
-        .with("lax.toml", "watchdog = 250\n");
-    let sheet = folder.line("replay s --profile lax.toml --calls --readout").out;
-    let mut reader = csv::ReaderBuilder::new().comment(Some(b'#')).from_reader(sheet.as_bytes());
-    let lines: Vec<csv::StringRecord> =
-        reader.records().map(|line| line.expect("as many cells as the head has")).collect();
-    assert_eq!(lines.len(), 13 + 300);
-    let trips: Vec<&csv::StringRecord> = lines.iter().filter(|line| !line[8].is_empty()).collect();
-    assert_eq!(trips, [&vec!["255", "tick", "", "0", "", "", "", "", "2"]]);
-    let readout = sheet.lines().last().and_then(|line| line.strip_prefix("# ")).expect("a comment");
-    assert!(folder.line(&format!("trace {readout}")).out.ends_with("trip    cause 2: watchdog\n"));
-}
-
-fn line_of(call: &Call) -> String {
-    let answer = call.said.answer;
-    let (kind, byte, reply) = match call.byte {
-        Some(byte) if answer == 1 || answer == 2 => ("byte", hex(&byte), String::new()),
-        Some(byte) => ("byte", hex(&byte), hex(&call.said.reply)),
-        None => ("tick", String::new(), String::new()),
-    };
-    let pulse = call.pulse().map_or(",,".to_owned(), |pulse| {
-        format!("{},{},{}", pulse.channel, pulse.width, pulse.current)
-    });
-    let trip = call.trip.map_or_else(String::new, |cause| cause.to_string());
-    format!("{},{kind},{byte},{answer},{reply},{pulse},{trip}", call.clock)
-}
-
-fn hex(byte: &u8) -> String {
-    format!("{byte:02X}")
+        .with("lax.toml", "watchdog = 250\n")
+        .with("strict.toml", "watchdog = 150\n");
+    let line = "replay s --profile lax.toml --against strict.toml --sheet a.csv --sheet b.csv";
+    assert_eq!(folder.line(line).status, 0);
+    assert!(folder.text("a.csv").ends_with("\n255,trip,,,,2\n"), "{}", folder.text("a.csv"));
+    assert!(folder.text("b.csv").ends_with("\n155,trip,,,,2\n"), "{}", folder.text("b.csv"));
+    let first = folder.line("replay s --profile lax.toml --against strict.toml --sheet c.csv");
+    assert_eq!((first.status, folder.text("c.csv")), (0, folder.text("a.csv")));
+    folder.refuses(
+        "replay s --sheet d.csv --sheet e.csv",
+        "--sheet: 2 files for 1 unit, and each has one sheet",
+    );
+    folder.refuses(
+        "replay s --sheet d.csv --plot d.csv",
+        "d.csv: cannot be written: it is another output",
+    );
 }

@@ -45,22 +45,22 @@ pub fn print(
     out: Out,
 ) -> Result<Vec<Option<Event>>, Failure> {
     let progress = Progress::beside_lines(session.number_of_calls(), "calls");
-    let mut sheet = Sheet::begin(out)?;
+    let mut calls = Calls::begin(out)?;
     let ends = play(session, units, &progress, |step| {
-        sheet.step(&step)?;
+        calls.step(&step)?;
         each(step)
     })?;
-    sheet.end()?;
+    calls.end()?;
     Ok(ends)
 }
 
-struct Sheet<W: io::Write>(csv::Writer<W>);
+struct Calls<W: io::Write>(csv::Writer<W>);
 
-impl<W: io::Write> Sheet<W> {
-    fn begin(out: W) -> Result<Sheet<W>, Failure> {
+impl<W: io::Write> Calls<W> {
+    fn begin(out: W) -> Result<Calls<W>, Failure> {
         let mut lines = csv::WriterBuilder::new().has_headers(false).from_writer(out);
         lines.write_record(HEAD)?;
-        Ok(Sheet(lines))
+        Ok(Calls(lines))
     }
 
     /// The line of a call. No call releases two pulses: a slot of module A is a
