@@ -12,7 +12,16 @@ const BOX: &[&str] = &["in place", "by value", "plain"];
 const BOTH: &[&str] = &["library", "plain"];
 const CODECS: &[&str] = &["library", "plain", "independent"];
 
-pub const GROUPS: [Group; 13] = [
+const SHEETS: &[&str] = &[
+    "1 pulse",
+    "16 mixed",
+    "455 pulses",
+    "455 mixed",
+    "4550 pulses",
+    "455 pulses, and a bad record",
+];
+
+pub const GROUPS: [Group; 15] = [
     Group {
         name: "tick",
         sides: BOX,
@@ -201,6 +210,8 @@ pub const GROUPS: [Group; 13] = [
             "512 mixed, 3756 bytes, round the end",
         ],
     },
+    Group { name: "sheet write", sides: CODECS, calls: SHEETS },
+    Group { name: "sheet read", sides: CODECS, calls: SHEETS },
 ];
 
 impl Group {

@@ -8,9 +8,9 @@ library, so that at 1.00 or more the library is no slower. Times real time: how 
 in the time that one has, 100,000 ns for a tick or a readout, 86,806 ns for a byte or each byte of a
 frame, and for each byte of a packet or of what stands where one is looked for the time of 11 bits:
 23,872 ns for the RehaStim2, at 460,800 baud with a start, a parity and a stop, and 3,667 ns for the
-RehaMove3, at 3,000,000 baud with a start and two stops. Independent: a codec by a grammar, near to the
-paper and not made to be fast. Mixed: the three kinds of record in a random order; mostly pulses: each
-16th record is an answer.";
+RehaMove3, at 3,000,000 baud with a start and two stops. Independent: packets by a grammar and sheets
+by the crate csv, near to the papers and not made to be fast. Mixed: the three kinds of record in a
+random order; mostly pulses: each 16th record is an answer.";
 
 /// The nanoseconds from one tick to the next: there are 10,000 a second.
 pub const TICK: f64 = 1e9 / 10_000.0;

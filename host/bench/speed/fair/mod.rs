@@ -7,14 +7,17 @@ mod packets;
 mod random;
 mod rings;
 mod same;
+mod sheets;
 
 pub use boxes::{end, read_out};
 pub use packets::{packet_read, packet_written};
+pub use sheets::{sheet_read, sheet_written};
 
 /// Stops at the first difference between the sides.
 pub fn check() {
     rings::check();
     frames::check();
     packets::check();
+    sheets::check();
     histories::check();
 }

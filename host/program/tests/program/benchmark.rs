@@ -30,6 +30,8 @@ fn no_such_measurement() {
             "ring of 64 records",
             "ring push",
             "ring readout",
+            "sheet write",
+            "sheet read",
         ];
         assert_eq!(groups.len(), all.len(), "{words}");
         assert!(all.iter().all(|group| groups.contains(group)), "{groups:?}");
