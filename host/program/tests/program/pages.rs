@@ -35,7 +35,7 @@ fn examples_are_real(name: &str, least: usize) {
     let mut runs = 0;
     for (head, lines) in examples(&text) {
         match head.split_once(' ') {
-            Some(("cat", name)) => folder.put(name, lines.join("\n")),
+            Some(("cat", name)) => folder.put(name, lines.join("\n") + "\n"),
             Some(("yarrowbell", rest)) => {
                 printed(&folder, rest, &lines);
                 runs += 1;
