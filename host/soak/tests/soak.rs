@@ -1,10 +1,26 @@
 //! The soak for the gate: long enough to meet everything that there is to meet.
 
 use soak::met::Met;
-use soak::{history, packets, pairs, sheets};
+use soak::{history, packets, pairs, sheets, Failure};
 
 /// How often each thing must have been met at least.
 const OFTEN: u64 = 40;
+
+/// What the trials came across from this seed on, until they made so many calls.
+fn met(
+    first_seed: u64,
+    calls: u64,
+    made: fn(&Met) -> u64,
+    run: fn(u64, &mut Met) -> Result<(), Failure>,
+) -> Met {
+    let mut met = Met::default();
+    let mut seeds = first_seed..;
+    while made(&met) < calls {
+        let seed = seeds.next().expect("there are seeds enough");
+        run(seed, &mut met).unwrap_or_else(|failure| panic!("{failure}"));
+    }
+    met
+}
 
 fn all_met(lines: Vec<(String, u64)>, least: u64) {
     for (what, count) in lines {
@@ -14,44 +30,24 @@ fn all_met(lines: Vec<(String, u64)>, least: u64) {
 
 #[test]
 fn histories() {
-    let mut met = Met::default();
-    let mut seeds = 1_000_000..;
-    while met.calls < 8_000_000 {
-        let seed = seeds.next().expect("there are seeds enough");
-        history::run(seed, &mut met).unwrap_or_else(|failure| panic!("{failure}"));
-    }
+    let met = met(1_000_000, 8_000_000, |met| met.calls, history::run);
     all_met(met.of_histories(), OFTEN);
 }
 
 #[test]
 fn profiles_that_are_nowhere_looser() {
-    let mut met = Met::default();
-    let mut seeds = 2_000_000..;
-    while met.pair_calls < 4_000_000 {
-        let seed = seeds.next().expect("there are seeds enough");
-        pairs::run(seed, &mut met).unwrap_or_else(|failure| panic!("{failure}"));
-    }
+    let met = met(2_000_000, 4_000_000, |met| met.pair_calls, pairs::run);
     all_met(met.of_pairs(), 1_000);
 }
 
 #[test]
 fn packets_of_every_device() {
-    let mut met = Met::default();
-    let mut seeds = 4_000_000..;
-    while met.all_calls() < 800_000 {
-        let seed = seeds.next().expect("there are seeds enough");
-        packets::run(seed, &mut met).unwrap_or_else(|failure| panic!("{failure}"));
-    }
+    let met = met(4_000_000, 800_000, Met::all_calls, packets::run);
     all_met(met.of_packets(), OFTEN);
 }
 
 #[test]
 fn readouts_as_sheets() {
-    let mut met = Met::default();
-    let mut seeds = 5_000_000..;
-    while met.all_calls() < 100_000 {
-        let seed = seeds.next().expect("there are seeds enough");
-        sheets::run(seed, &mut met).unwrap_or_else(|failure| panic!("{failure}"));
-    }
+    let met = met(5_000_000, 100_000, Met::all_calls, sheets::run);
     all_met(met.of_sheets(), OFTEN);
 }
