@@ -2,7 +2,6 @@
 use mathlib.Core.Path.{sym, _∙_}
 use native.Mathlib.Omega.{arith}
 use borrow.Author.Needs.{needs}
-use lib.ListN.{length}
 use Rattle.slices.proofs.Stored.{store-yes, store-no}
 use Rattle.decimal.specs.Decimal.{digits}
 use Rattle.decimal.proofs.write.Statement.{statement}
