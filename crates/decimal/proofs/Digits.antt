@@ -84,10 +84,10 @@ digits-count n k h l = omega (arith, digits-more-than n k h, digits-at-most n k 
 pub digit-range : (b : ℕ) → isDigit b ≡ true → (48 ≤ b) × (b ≤ 57)
 digit-range b e = let p = both (leb 48 b) (leb b 57) e in (leb-true 48 b (p .0), leb-true b 57 (p .1))
 
-pub digit-is : (d : ℕ) → d < 10 → isDigit (digit d) ≡ true
+digit-is : (d : ℕ) → d < 10 → isDigit (digit d) ≡ true
 digit-is d h = rw (le-leb 48 (48 + d) (omega arith), le-leb (48 + d) 57 (omega arith))
 
-pub all-append : (l m : List ℕ) → allDigits l ≡ true → allDigits m ≡ true → allDigits (l ++ m) ≡ true
+all-append : (l m : List ℕ) → allDigits l ≡ true → allDigits m ≡ true → allDigits (l ++ m) ≡ true
 unfolding allDigits
 all-append [] m p q = q
 all-append (b ∷ l) m p q = let r = both (isDigit b) (allDigits l) p in rw (r .0) (all-append l m (r .1) q)
