@@ -170,7 +170,7 @@ impl Replay {
             events.finish(out)?;
         }
         for (guard, file) in guards.iter().zip(sheets) {
-            let sheet = sheet::of(&guard.trace()).expect("a unit writes what is in range");
+            let sheet = sheet::of(&guard.trace()).expect("every trace of a unit is written: proved");
             file.put(sheet, out)?;
         }
         if let Some(plot) = plot {
