@@ -1,4 +1,6 @@
 // Document 01, "Bytes".
+#![tactic(auto)]
+
 ghost use Rattle.std.specs.Prelude.{true, ◌≡◌, [], ◌∷◌, ◌≤◌, ◌<◌, take};
 ghost use Rattle.model.specs.Arrival.{taken, opened_update, opened, followed, Arrival.alone, Arrival.whole};
 ghost use Rattle.model.specs.Machine.{step, Call.byte};

@@ -1,4 +1,6 @@
 // Fields of seven-bit bytes: the only shifts and masks, and the search for a high byte.
+#![tactic(auto)]
+
 ghost use Rattle.std.specs.Prelude.{◌≡◌, ◌+◌, ◌*◌, ◌/◌, ◌%◌, ◌^◌, ◌<◌};
 ghost use Rattle.bits.specs.Fields.{field, below};
 ghost use Rattle.bits.specs.High.{high, first_high};

@@ -18,6 +18,8 @@
 //   Called             188 bytes: said 0, next 20 (Box)
 // Structs go by value, but for a box lent by reference. Every byte of a struct is a field's: some numbers are wider than their range
 // asks for, so that none lies between two fields or behind the last.
+#![tactic(auto)]
+
 ghost use Rattle.std.specs.Prelude.{◌≡◌, length};
 ghost use Rattle.model.specs.Machine.{Call.byte, Call.tick};
 ghost use Rattle.calls.specs.Making.{make_of};

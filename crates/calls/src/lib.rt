@@ -1,11 +1,13 @@
 // What the calls on a box give back: a box is made, takes a byte or a tick, and its trace is read out. Their rules stand in specs/ as
 // definitions. No function stands here.
+#![tactic(auto)]
+
 use record::Box;
 use said::Said;
 
 // What the making of a box answers, and the box, all zero where it is refused.
 #[repr(C)]
-#[derive(Drop)]
+#[derive(Clone, Copy)]
 pub struct Made {
     pub answer: u32,
     pub made: Box,
@@ -13,7 +15,7 @@ pub struct Made {
 
 // What a call says, and the box that it leaves.
 #[repr(C)]
-#[derive(Drop)]
+#[derive(Clone, Copy)]
 pub struct Called {
     pub said: Said,
     pub next: Box,

@@ -34,7 +34,7 @@ pub const HOLD: u64 = 0x686F_6C64;
 pub const CHANNEL: u64 = 0x63_6861_6E6E_656C;
 
 // A line's first word, NOTHING or UNREADABLE, and how many numbers stand behind it.
-#[derive(Drop)]
+#[derive(Clone, Copy)]
 pub struct Asked {
     pub word: u64,
     pub count: usize,

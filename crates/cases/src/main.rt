@@ -1,5 +1,7 @@
 // A script of cases (document 01, "Other cases a program runs"), played through the calls on a box. Each line of the script is
 // copied, and what its step gave stands behind two spaces below it.
+#![tactic(auto)]
+
 mod box_calls;
 mod lines;
 mod outside;

@@ -1,10 +1,12 @@
 // Points of a pulse of the RehaMove3 and its net charge (request 13; source 002, section 4.2, "Point definition").
+#![tactic(auto)]
+
 ghost use Rattle.std.specs.Prelude.{true, cond, ◌&&◌, ◌≡◌, take, drop};
 ghost use Rattle.charge.specs.Charge.{of_paper, point_good, is_zero_point, all, pulse_good, part_of, net_of, weighed_point, weighed};
 
 // A duration in microseconds, and a current as twice the milliamps plus 300.
 #[repr(C)]
-#[derive(Drop)]
+#[derive(Clone, Copy)]
 pub struct Point {
     pub duration: u16,
     pub code: u16,
@@ -12,14 +14,14 @@ pub struct Point {
 
 // The first points are the pulse's, so many as number says; those past it are zero.
 #[repr(C)]
-#[derive(Drop)]
+#[derive(Clone, Copy)]
 pub struct Pulse {
     pub number: u16,
     pub points: [Point; 16],
 }
 
 // Whether a pulse's values are good, and its net charge in half milliamp microseconds, 0 where they are not.
-#[derive(Drop)]
+#[derive(Clone, Copy)]
 pub struct Weighed {
     pub good: bool,
     pub charge: i32,

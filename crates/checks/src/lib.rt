@@ -1,4 +1,6 @@
 // The Check of a command (document 01, "The four frames"): the sum of its variables, reduced as it goes.
+#![tactic(auto)]
+
 ghost use Rattle.std.specs.Prelude.{[], ◌∷◌, ◌≡◌, ◌+◌, ◌%◌};
 ghost use Rattle.commands.specs.Commands.{Command.init, Command.single, check_of};
 ghost use Rattle.checks.specs.Reduced.{reduced};

@@ -1,4 +1,6 @@
 // The four commands (document 01, "The four frames"): their variables and good values; the reply byte.
+#![tactic(auto)]
+
 pub mod answers;
 pub mod idents;
 pub mod sizes;
@@ -10,7 +12,7 @@ ghost use Rattle.commands.specs.Reply.{is_decision, reply};
 
 // What an Init sets: N_Factor, Channel_Stim, Channel_Lf, Group_Time, Main_Time.
 #[repr(C)]
-#[derive(Drop)]
+#[derive(Clone, Copy)]
 pub struct Init {
     pub factor: u8,
     pub stim: u8,
@@ -29,7 +31,7 @@ pub const NO_INIT: Init = Init {
 
 // What an Update sets one channel to.
 #[repr(C)]
-#[derive(Drop)]
+#[derive(Clone, Copy)]
 pub struct Setting {
     pub width: u16,
     pub mode: u8,
@@ -44,7 +46,7 @@ pub const NO_SETTING: Setting = Setting {
 
 // What a Single asks for; its channel is Channel_Number, 0 to 7.
 #[repr(C)]
-#[derive(Drop)]
+#[derive(Clone, Copy)]
 pub struct Single {
     pub width: u16,
     pub channel: u8,
@@ -59,7 +61,7 @@ pub const NO_SINGLE: Single = Single {
 
 // What a writer reports, of frames or of packets: its answer and the bytes written.
 #[repr(C)]
-#[derive(Drop)]
+#[derive(Clone, Copy)]
 pub struct Wrote {
     pub answer: u8,
     pub used: u8,

@@ -1,4 +1,6 @@
 // The commands of ScienceMode2 that are carried (source 000, sections 3 and 4): their numbers, their data bytes and their good values.
+#![tactic(auto)]
+
 pub mod numbers;
 mod results;
 
@@ -8,7 +10,7 @@ ghost use Rattle.commands2.specs.ByValue.{by_value, data_by_value};
 
 // What an InitChannelListMode sets (section 4.3): the low frequency factor, the active channels, the active low frequency channels, the inter
 // pulse interval and the main stimulation interval as they are coded, the channel execution.
-#[derive(Drop)]
+#[derive(Clone, Copy)]
 pub struct ChannelList {
     pub factor: u8,
     pub active: u8,
@@ -18,7 +20,7 @@ pub struct ChannelList {
     pub execution: u8,
 }
 
-#[derive(Drop)]
+#[derive(Clone, Copy)]
 pub enum Command {
     Init { version: u8 },
     InitAck { result: i8 },
@@ -83,7 +85,7 @@ pub fn good(c: Command) -> bool
 // ---- data bytes
 
 // The data bytes by value, zeros behind them, and how many they are.
-#[derive(Drop)]
+#[derive(Clone, Copy)]
 pub struct Data {
     pub bytes: [u8; 7],
     pub size: usize,

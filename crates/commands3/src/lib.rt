@@ -1,4 +1,6 @@
 // The low-level commands of the RehaMove3 (request 13; source 002, section 4): their numbers, their data bytes and their good values.
+#![tactic(auto)]
+
 pub mod numbers;
 
 ghost use Rattle.std.specs.Prelude.{◌≡◌};
@@ -6,7 +8,7 @@ ghost use Rattle.commands3.specs.Commands.{number_of, good_result, good_electrod
 
 use charge::{Point, Pulse};
 
-#[derive(Drop)]
+#[derive(Clone, Copy)]
 pub enum Command {
     LlInit { voltage: u8 },
     LlInitAck { result: u8 },
@@ -20,7 +22,7 @@ pub enum Command {
 }
 
 // A command with the pulse of a channel config: zeros beside any other.
-#[derive(Drop)]
+#[derive(Clone, Copy)]
 pub struct Message {
     pub command: Command,
     pub pulse: Pulse,

@@ -1,4 +1,6 @@
 // Cyclic redundancy checks of eight and of sixteen bits, each by a table (sources 000 and 002, section 2.2 of both).
+#![tactic(auto)]
+
 mod table16;
 mod table8;
 

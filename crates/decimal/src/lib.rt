@@ -1,4 +1,6 @@
 // Numbers as text (request 03): decimal, without leading zeros.
+#![tactic(auto)]
+
 ghost use Rattle.std.specs.Prelude.{◌≡◌, ◌+◌, ◌≤◌, length};
 ghost use Rattle.std.proofs.lemmas.List.Edits.{sets};
 ghost use Rattle.slices.specs.Stored.{stored, stored_in};
@@ -6,7 +8,7 @@ ghost use Rattle.decimal.specs.Decimal.{digits, is_digit, value_from};
 ghost use Rattle.decimal.specs.Front.{front, largest, number_in_front};
 
 // A number in front of some bytes, and how many of them it takes; none where that is 0.
-#[derive(Drop)]
+#[derive(Clone, Copy)]
 pub struct Number {
     pub value: u32,
     pub size: usize,

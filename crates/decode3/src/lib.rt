@@ -1,4 +1,6 @@
 // Contents of packets of the RehaMove3, read (request 13; source 002, sections 2.2 and 4).
+#![tactic(auto)]
+
 ghost use Rattle.std.specs.Prelude.{◌≡◌, ◌+◌, ◌*◌, pos, get_or};
 ghost use Rattle.commands3.specs.Commands.{alone};
 ghost use Rattle.decode3.specs.Decoded.{not_taken, decoded};
@@ -7,7 +9,7 @@ ghost use Rattle.decode3.specs.Parts.{told, data_decoded};
 use commands3::{Command, Message, NO_PULSE, numbers};
 
 // Whether a content is right, and what it says: packet number, message and the net charge of its pulse, all zero where it is not.
-#[derive(Drop)]
+#[derive(Clone, Copy)]
 pub struct Decoded {
     pub right: bool,
     pub packet: u8,

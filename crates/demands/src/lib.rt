@@ -1,1 +1,2 @@
 // The demands: definitions and theorems alone, in specs/ and proofs/. No function stands here.
+#![tactic(auto)]

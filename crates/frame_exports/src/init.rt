@@ -8,7 +8,7 @@ ghost use Rattle.frame_exports.specs.Reports.{as_init};
 use commands::{Init, Wrote};
 
 #[repr(C)]
-#[derive(Drop)]
+#[derive(Clone, Copy)]
 pub struct ReadInit {
     pub answer: u8,
     pub ident: u8,

@@ -13,6 +13,8 @@
 //   ReadUpdate         36 bytes: as ReadStop, then settings 4
 // Structs go by value. A reader hands back the report of the one reader: its answer, the Ident of the frame, the bytes used, and the
 // fields of its own kind, which are zero where the frame is refused or of another kind. Every byte of a struct is a field's.
+#![tactic(auto)]
+
 pub mod init;
 pub mod reply;
 pub mod single;

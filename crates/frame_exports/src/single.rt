@@ -8,7 +8,7 @@ ghost use Rattle.frame_exports.specs.Reports.{as_single};
 use commands::{Single, Wrote};
 
 #[repr(C)]
-#[derive(Drop)]
+#[derive(Clone, Copy)]
 pub struct ReadSingle {
     pub answer: u8,
     pub ident: u8,

@@ -8,7 +8,7 @@ ghost use Rattle.frame_exports.specs.Reports.{as_stop};
 use commands::Wrote;
 
 #[repr(C)]
-#[derive(Drop)]
+#[derive(Clone, Copy)]
 pub struct ReadStop {
     pub answer: u8,
     pub ident: u8,

@@ -8,13 +8,13 @@ ghost use Rattle.frame_exports.specs.Reports.{as_update};
 use commands::{Setting, Wrote};
 
 #[repr(C)]
-#[derive(Drop)]
+#[derive(Clone, Copy)]
 pub struct Settings {
     pub all: [Setting; 8],
 }
 
 #[repr(C)]
-#[derive(Drop)]
+#[derive(Clone, Copy)]
 pub struct ReadUpdate {
     pub answer: u8,
     pub ident: u8,

@@ -1,4 +1,6 @@
 // Command frames (document 01, "The four frames"; source 003, section 5): their layout, and whether a whole one is there.
+#![tactic(auto)]
+
 ghost use Rattle.std.specs.Prelude.{◌≡◌, [], ◌∷◌, ◌≤◌, ltb, length};
 ghost use Rattle.bits.specs.Fields.{field};
 ghost use Rattle.commands.specs.Answers.{◌when◌, first_of};
@@ -13,7 +15,7 @@ pub const MODE_BIT: u64 = 5;
 pub const CHANNEL_BIT: u64 = 4;
 
 // A command's fields by value; those of other kinds are zero.
-#[derive(Drop)]
+#[derive(Clone, Copy)]
 pub struct Fields {
     pub ident: u8,
     pub init: Init,
@@ -22,7 +24,7 @@ pub struct Fields {
 }
 
 // What the reader reports: its answer, the bytes used and the fields; 0 and all zero on a refusal.
-#[derive(Drop)]
+#[derive(Clone, Copy)]
 pub struct Read {
     pub answer: u8,
     pub used: u8,
@@ -30,7 +32,7 @@ pub struct Read {
 }
 
 // The three bytes that Update and Single share; `lead` is Mode or Channel_Number.
-#[derive(Drop)]
+#[derive(Clone, Copy)]
 pub struct Entry {
     pub lead: u8,
     pub width: u16,

@@ -1,4 +1,6 @@
 // Packets on the line, which RehaStim2 and RehaMove3 share: one written, and the first one found in a row of bytes.
+#![tactic(auto)]
+
 ghost use Rattle.std.specs.Prelude.{◌≡◌, ◌+◌, ◌-◌, ◌≤◌, cond, ◌||◌, eqb, leb, length, drop};
 ghost use Rattle.std.proofs.lemmas.List.Edits.{sets};
 ghost use Rattle.stuffing.specs.Stuffing.{start_byte, stop_byte, pair, stuffed_byte, stuffed, pairs};
@@ -9,7 +11,7 @@ ghost use Rattle.framing.specs.Blocks.{quiet};
 use stuffing::{KEY, START, STOP, STUFFING};
 
 // Where a finished packet lies: its first byte after the start, and the place after its stop; both 0 where none is finished.
-#[derive(Drop)]
+#[derive(Clone, Copy)]
 pub struct Found {
     pub body: usize,
     pub used: usize,
@@ -59,7 +61,7 @@ fn is_quiet(s: &[u8], at: usize) -> bool
 }
 
 // The bytes from at to end passed one by one: the packet that is finished there (used is not 0), or what is known behind them.
-#[derive(Drop)]
+#[derive(Clone, Copy)]
 struct Walked {
     prev: u8,
     body: usize,

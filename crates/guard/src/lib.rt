@@ -1,5 +1,7 @@
 // The calls on a box (document 01, "Numbers the box answers"): it takes a byte or a tick, and its trace is read out. The ring lies in
 // a named part of a lent buffer.
+#![tactic(auto)]
+
 ghost use Rattle.std.specs.Prelude.{◌≡◌, length};
 ghost use Rattle.model.specs.Machine.{Call.byte, Call.tick};
 ghost use Rattle.calls.specs.Calls.{call_of};

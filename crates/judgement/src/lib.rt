@@ -1,4 +1,6 @@
 // Document 01, "Numbers the box answers": how a command with a right check and good values is judged.
+#![tactic(auto)]
+
 ghost use Rattle.std.specs.Prelude.{cond, not, ◌≡◌, [], ◌∷◌, ◌+◌, ◌<◌, ◌≤◌, ltb, get_or, set};
 ghost use Rattle.commands.specs.Answers.{◌when◌, first_of};
 ghost use Rattle.commands.specs.Commands.{no_setting};

@@ -1,5 +1,7 @@
 // The box lent by reference and changed where it lies: each call is the call by value, its box stored. Exported, in the layout that
 // the head of `box_exports` tells; a crate of its own, as its walks take long to check.
+#![tactic(auto)]
+
 ghost use Rattle.std.specs.Prelude.{◌≡◌};
 ghost use Rattle.model.specs.Machine.{Call.byte, Call.tick};
 ghost use Rattle.calls.specs.Calls.{call_of};

@@ -1,4 +1,6 @@
 // Document 01, "Profile": the ranges of a profile's numbers, and what is over its limits.
+#![tactic(auto)]
+
 ghost use Rattle.std.specs.Prelude.{◌≡◌, ◌<◌};
 ghost use Rattle.model.specs.Below.{all_below};
 ghost use Rattle.model.specs.Profiles.{good_limits, good_profile, over_at, over_limits};

@@ -1,10 +1,12 @@
 // Document 01's machine, "Profile" and "The machine": its numbers. Its rules stand in specs/ as definitions, and what follows from
 // them in proofs/. No function stands here. The fields' order and width leave no byte between them, as the structs cross the boundary.
+#![tactic(auto)]
+
 use commands::{Init, Setting};
 
 // The largest current and width of each channel, the largest charge, the shortest t1 and the watchdog.
 #[repr(C)]
-#[derive(Drop)]
+#[derive(Clone, Copy)]
 pub struct Profile {
     pub currents: [u8; 8],
     pub widths: [u16; 8],
@@ -15,7 +17,7 @@ pub struct Profile {
 
 // What a running list has, all zero while the box is not running. An update waits where `waits` is 1; `watch` is the watchdog count.
 #[repr(C)]
-#[derive(Drop)]
+#[derive(Clone, Copy)]
 pub struct Run {
     pub list: Init,
     pub position: u16,
@@ -55,7 +57,7 @@ pub const HOLD: u8 = 15;
 
 // The machine without its clock and its partial frame: the holds of modules A and B, and the state.
 #[repr(C)]
-#[derive(Drop)]
+#[derive(Clone, Copy)]
 pub struct Core {
     pub holda: u8,
     pub holdb: u8,

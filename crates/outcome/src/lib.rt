@@ -1,5 +1,7 @@
 // What a call on any box record gives (document 01, "Numbers the box answers"): a refusal, or what the machine's step says and leaves. The
 // ring's bytes are not touched here.
+#![tactic(auto)]
+
 ghost use Rattle.std.specs.Prelude.{◌≡◌};
 ghost use Rattle.outcome.specs.Step.{refusal, refused_step};
 
@@ -8,7 +10,7 @@ use record::Box;
 use said::{Records, Said};
 
 // What a call gives back, and the box that it leaves.
-#[derive(Drop)]
+#[derive(Clone, Copy)]
 pub struct Stepped {
     pub said: Said,
     pub records: Records,

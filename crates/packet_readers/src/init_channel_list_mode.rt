@@ -10,7 +10,7 @@ use crate::{packet, result};
 use commands2::numbers;
 
 #[repr(C)]
-#[derive(Drop)]
+#[derive(Clone, Copy)]
 pub struct ReadList {
     pub used: usize,
     pub answer: u8,

@@ -13,6 +13,8 @@
 // Structs go by value. A reader puts the data of the packet to the start of its output, whatever the command, and hands back the report of the
 // one reader: its answer, the bytes used, the packet number, the command's number, how many data bytes it put, and the values of its own kind,
 // which are zero where the packet is refused or of another kind. Every byte of a struct is a field's.
+#![tactic(auto)]
+
 pub mod get_stimulation_mode;
 pub mod init;
 pub mod init_channel_list_mode;

@@ -9,7 +9,7 @@ use commands2::{ChannelList, Command};
 use reader2::Read;
 
 // The values of a command, zero where it has none of that kind.
-#[derive(Drop)]
+#[derive(Clone, Copy)]
 struct Values {
     version: u8,
     echo: u8,
@@ -19,7 +19,7 @@ struct Values {
 }
 
 #[repr(C)]
-#[derive(Drop)]
+#[derive(Clone, Copy)]
 pub struct ReadPacket {
     pub used: usize,
     pub answer: u8,
@@ -40,7 +40,7 @@ pub struct ReadPacket {
 
 // What the readers of commands without data hand back.
 #[repr(C)]
-#[derive(Drop)]
+#[derive(Clone, Copy)]
 pub struct ReadEmpty {
     pub used: usize,
     pub answer: u16,
@@ -51,7 +51,7 @@ pub struct ReadEmpty {
 
 // What the readers of acknowledgements with a result alone hand back.
 #[repr(C)]
-#[derive(Drop)]
+#[derive(Clone, Copy)]
 pub struct ReadResult {
     pub used: usize,
     pub answer: u16,

@@ -8,7 +8,7 @@ ghost use Rattle.packet_readers.specs.Reports.{as_packet, as_echo};
 use crate::packet;
 
 #[repr(C)]
-#[derive(Drop)]
+#[derive(Clone, Copy)]
 pub struct ReadEcho {
     pub used: usize,
     pub answer: u8,

@@ -10,7 +10,7 @@ use charge::Point;
 use commands3::numbers;
 
 #[repr(C)]
-#[derive(Drop)]
+#[derive(Clone, Copy)]
 pub struct ReadConfig {
     pub used: usize,
     pub charge: i32,
@@ -25,7 +25,7 @@ pub struct ReadConfig {
 }
 
 #[repr(C)]
-#[derive(Drop)]
+#[derive(Clone, Copy)]
 pub struct ReadElectrode {
     pub used: usize,
     pub answer: u8,

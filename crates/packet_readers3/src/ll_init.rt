@@ -10,7 +10,7 @@ use crate::{packet, result};
 use commands3::numbers;
 
 #[repr(C)]
-#[derive(Drop)]
+#[derive(Clone, Copy)]
 pub struct ReadVoltage {
     pub used: usize,
     pub answer: u8,

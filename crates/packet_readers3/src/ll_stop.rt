@@ -10,7 +10,7 @@ use crate::{packet, result};
 use commands3::numbers;
 
 #[repr(C)]
-#[derive(Drop)]
+#[derive(Clone, Copy)]
 pub struct ReadEmpty {
     pub used: usize,
     pub answer: u16,

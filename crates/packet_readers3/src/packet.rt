@@ -10,7 +10,7 @@ use commands3::Command;
 use reader3::Read;
 
 // The values of a command, zero where it has none of that kind. Those of a pulse stand beside it.
-#[derive(Drop)]
+#[derive(Clone, Copy)]
 struct Values {
     voltage: u8,
     result: u8,
@@ -20,7 +20,7 @@ struct Values {
 }
 
 #[repr(C)]
-#[derive(Drop)]
+#[derive(Clone, Copy)]
 pub struct ReadPacket {
     pub used: usize,
     pub charge: i32,

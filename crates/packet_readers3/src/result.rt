@@ -6,7 +6,7 @@ use crate::packet::ReadPacket;
 
 // What the readers of acknowledgements with a result alone hand back.
 #[repr(C)]
-#[derive(Drop)]
+#[derive(Clone, Copy)]
 pub struct ReadResult {
     pub used: usize,
     pub answer: u8,

@@ -4,6 +4,8 @@
 //   &mut [u8]          two arguments, a pointer and then a length of 8 bytes
 //   Wrote              2 bytes: answer 0, used 1
 // Structs go by value.
+#![tactic(auto)]
+
 pub mod get_stimulation_mode;
 pub mod init;
 pub mod init_channel_list_mode;

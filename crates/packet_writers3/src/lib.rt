@@ -7,6 +7,8 @@
 //   Wrote              2 bytes: answer 0, used 1
 //   Weighed            8 bytes: charge 0 (4 bytes, signed), answer 4 (4 bytes)
 // Structs go by value.
+#![tactic(auto)]
+
 mod alone;
 pub mod ll_channel_config;
 pub mod ll_init;

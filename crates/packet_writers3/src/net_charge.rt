@@ -7,7 +7,7 @@ use charge::Pulse;
 use commands::answers;
 
 #[repr(C)]
-#[derive(Drop)]
+#[derive(Clone, Copy)]
 pub struct Weighed {
     pub charge: i32,
     pub answer: u32,

@@ -1,4 +1,6 @@
 // The partial frame of a box record (document 01, last paragraph of "The machine"), and the test of it.
+#![tactic(auto)]
+
 ghost use Rattle.std.specs.Prelude.{◌&&◌, ◌≡◌, ◌≤◌, take, drop};
 ghost use Rattle.model.specs.Good.{all_low, good_update_size, good_size, good_partial};
 ghost use Rattle.partial.specs.Partial.{zeros, unused_zero};
@@ -8,7 +10,7 @@ use model::Core;
 
 // The partial frame: the first `len` of its bytes, and the length that is kept for it; both 0 where no frame is open.
 #[repr(C)]
-#[derive(Drop)]
+#[derive(Clone, Copy)]
 pub struct PartialFrame {
     pub bytes: [u8; 25],
     pub kept: u8,

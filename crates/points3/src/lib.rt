@@ -1,4 +1,6 @@
 // The pulse of a channel config of the RehaMove3, read of its data (request 13; source 002, section 4.2).
+#![tactic(auto)]
+
 ghost use Rattle.std.specs.Prelude.{◌≡◌, ◌+◌, ◌*◌, ◌≤◌, length, drop};
 ghost use Rattle.commands3.specs.Points.{word_in};
 ghost use Rattle.points3.specs.Pulses.{point_of, points_read, pulse_read};
@@ -8,7 +10,7 @@ use commands3::NO_PULSE;
 
 // Whether the data is a good pulse's, with no byte too few or too many and no reserved bit set; and that pulse with its net charge, all zero
 // where it is not.
-#[derive(Drop)]
+#[derive(Clone, Copy)]
 pub struct PulseRead {
     pub right: bool,
     pub pulse: Pulse,
@@ -17,7 +19,7 @@ pub struct PulseRead {
 
 // Whether the points that are read are good, with no reserved bit set; the points, zeros behind them; and what the good ones add to the net
 // charge.
-#[derive(Drop)]
+#[derive(Clone, Copy)]
 struct PointsRead {
     right: bool,
     points: [Point; 16],

@@ -1,4 +1,6 @@
 // The reader of one frame (document 01, "The four frames"): its tests in their order, and what it reports.
+#![tactic(auto)]
+
 mod layout;
 mod listed;
 mod reading;

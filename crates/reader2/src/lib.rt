@@ -1,4 +1,6 @@
 // The reader of one packet of ScienceMode2 (request 12; source 000, section 2.2): its tests in their order, and what it reports.
+#![tactic(auto)]
+
 ghost use Rattle.std.specs.Prelude.{◌≡◌, true, length, drop};
 ghost use Rattle.stuffing.specs.Stuffing.{stuffed};
 ghost use Rattle.commands2.specs.Commands.{right};
@@ -11,7 +13,7 @@ use commands2::Command;
 use stuffing::{KEY, STUFFING};
 
 // What reading a packet reports: its answer, the bytes used, the packet number, the command, and how many data bytes it put to the output.
-#[derive(Drop)]
+#[derive(Clone, Copy)]
 pub struct Read {
     pub answer: u8,
     pub used: usize,

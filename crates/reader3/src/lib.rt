@@ -1,4 +1,6 @@
 // The reader of one packet of the RehaMove3 (request 13; source 002, section 2.2): its tests in their order, and what it reports.
+#![tactic(auto)]
+
 ghost use Rattle.std.specs.Prelude.{◌≡◌, true, ◌+◌, ◌≤◌, length, drop};
 ghost use Rattle.stuffing.specs.Stuffing.{stuffed};
 ghost use Rattle.packets.specs.Reader.{covered, covered_answer, body_answer, refused, answered, put, data_put};
@@ -12,7 +14,7 @@ use stuffing::{KEY, STUFFING};
 
 // What reading a packet reports: its answer, the bytes used, the packet number, the message, how many data bytes it put to the output, and the net
 // charge of the message's pulse.
-#[derive(Drop)]
+#[derive(Clone, Copy)]
 pub struct Read {
     pub answer: u8,
     pub used: usize,

@@ -1,4 +1,6 @@
 // The box record (document 01, last paragraph of "The machine"): a whole box as numbers, and the test of it.
+#![tactic(auto)]
+
 ghost use Rattle.std.specs.Prelude.{◌≡◌};
 ghost use Rattle.record.specs.Box.{good_box};
 
@@ -8,7 +10,7 @@ use trace::Ring;
 
 // A box: numbers only, so that any record has a defined answer.
 #[repr(C)]
-#[derive(Drop)]
+#[derive(Clone, Copy)]
 pub struct Box {
     pub profile: Profile,
     pub clock: u32,

@@ -7,6 +7,8 @@
 //   Pushed             16 bytes: answer 0 (4 bytes), ring 4
 //   Readout            8 bytes: answer 0, used 4 (4 bytes each)
 // Structs go by value. Every byte of a struct is a field's.
+#![tactic(auto)]
+
 ghost use Rattle.std.specs.Prelude.{◌≡◌, length};
 ghost use Rattle.trace.specs.Ring.{ready_answer, pushed, pushed_buf, read_out, read_bytes};
 

@@ -1,5 +1,7 @@
 // The core of a box record (document 01, last paragraph of "The machine"): its holds and its state, a running list with its settings,
 // or the zeros of a box that is not running.
+#![tactic(auto)]
+
 ghost use Rattle.std.specs.Prelude.{true, cond, ◌≡◌, get_or};
 ghost use Rattle.commands.specs.Commands.{no_setting};
 ghost use Rattle.model.specs.Below.{all_below};

@@ -1,4 +1,6 @@
 // Document 01, "The machine": which channel of a module pulses at a position.
+#![tactic(auto)]
+
 ghost use Rattle.std.specs.Prelude.{cond, ◌&&◌, ◌⊎◌, ◌≡◌, ◌+◌, ◌≤◌};
 ghost use Rattle.model.specs.Channels.{in_set};
 ghost use Rattle.model.specs.Timing.{t2};

@@ -5,6 +5,8 @@
 //   Written            16 bytes: answer 0, used 8 (8 bytes each)
 //   Read               24 bytes: answer 0, line 8, used 16 (8 bytes each)
 // Structs go by value. Every byte of a struct is a field's.
+#![tactic(auto)]
+
 ghost use Rattle.std.specs.Prelude.{◌≡◌, length};
 ghost use Rattle.sheet.specs.Calls.{written, sheet_put, read, readout_put};
 

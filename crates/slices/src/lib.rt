@@ -1,4 +1,6 @@
 // Bytes of a slice: the one at any place, those in front, and bytes put to a slice's start or stored from a place on.
+#![tactic(auto)]
+
 ghost use Rattle.std.specs.Prelude.{◌≡◌, cond, ◌+◌, ◌≤◌, ltb, length, get_or};
 ghost use Rattle.std.proofs.lemmas.List.Edits.{sets};
 ghost use Rattle.slices.specs.Overlay.{overlay};

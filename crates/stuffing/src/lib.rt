@@ -1,4 +1,6 @@
 // Byte stuffing, which the packets of RehaStim2 and RehaMove3 share: how many bytes stuffing makes, and stuffed bytes read back.
+#![tactic(auto)]
+
 ghost use Rattle.std.specs.Prelude.{◌≡◌, false, cond, length, set};
 ghost use Rattle.std.specs.Int.Bits.{bit_xor};
 ghost use Rattle.stuffing.specs.Stuffing.{stuffing_key, special, any_special, stuffed_byte, stuffed, opens_pair, wrong_in, pairs_good, unstuffed};
@@ -84,7 +86,7 @@ fn is_wrong(after: bool, b: u8) -> bool
 }
 
 // Whether stuffed bytes are as the writer makes them, and how many they stand for.
-#[derive(Drop)]
+#[derive(Clone, Copy)]
 pub struct Surveyed {
     pub good: bool,
     pub size: usize,

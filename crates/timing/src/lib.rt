@@ -1,4 +1,6 @@
 // Channel counts, periods and the timing rules.
+#![tactic(auto)]
+
 ghost use Rattle.std.specs.Prelude.{◌≡◌, ◌+◌, ◌≤◌, max};
 ghost use Rattle.model.specs.Channels.{in_set, many, channels};
 ghost use Rattle.model.specs.Timing.{t1, t2, keeps_modules, keeps_main, largest_mode, init_timing, update_timing};

@@ -1,4 +1,6 @@
 // Which messages of the RehaMove3 may be written (request 13): good values, no pulse beside a command that has none, and a net charge of zero.
+#![tactic(auto)]
+
 ghost use Rattle.std.specs.Prelude.{◌&&◌, ◌≡◌};
 ghost use Rattle.charge.specs.Charge.{all, is_zero_point, pulse_good, charge_of, is_zero};
 ghost use Rattle.commands3.specs.Commands.{is_no_pulse, good};

@@ -1,4 +1,6 @@
 // The writer of packets of ScienceMode2 (request 12; source 000, section 2.2).
+#![tactic(auto)]
+
 ghost use Rattle.std.specs.Prelude.{◌≡◌, ◌∷◌, ◌≤◌, length};
 ghost use Rattle.crc.specs.Crc.{crc8};
 ghost use Rattle.stuffing.specs.Stuffing.{stuffed};
@@ -11,7 +13,7 @@ use commands2::Command;
 use stuffing::{KEY, STUFFING};
 
 // What the header tells of the bytes behind it: their checksum, and how many they are.
-#[derive(Drop)]
+#[derive(Clone, Copy)]
 struct Told {
     check: u8,
     size: usize,

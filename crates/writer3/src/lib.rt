@@ -1,4 +1,6 @@
 // The writer of packets of the RehaMove3 (request 13; source 002, section 2.2).
+#![tactic(auto)]
+
 ghost use Rattle.std.specs.Prelude.{◌≡◌, ◌≤◌, length};
 ghost use Rattle.crc.specs.Crc.{crc16};
 ghost use Rattle.stuffing.specs.Stuffing.{stuffed};
@@ -11,7 +13,7 @@ use commands3::Message;
 use stuffing::{KEY, STUFFING};
 
 // What the header tells of the bytes behind it: their check sum, and how many they are.
-#[derive(Drop)]
+#[derive(Clone, Copy)]
 struct Told {
     check: u16,
     size: usize,

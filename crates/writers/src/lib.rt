@@ -1,4 +1,6 @@
 // The writers (document 01, "The four frames"): one for each kind of command.
+#![tactic(auto)]
+
 mod storing;
 
 ghost use Rattle.std.specs.Prelude.{◌≡◌};

@@ -1,0 +1,8 @@
+use Rattle.model.specs.Machine.{Call.byte}
+use Rattle.calls.proofs.Joined.{call_done}
+use Rattle.guard.proofs.byte.Goals as goal
+
+pub returns : goal.returns
+returns c =
+    let a = c.args in
+    call_done a.b a.buf.now a.at (byte a.n) c.ready-ready.ensures c.take_byte-t.ensures c.finish.ensures

@@ -1,0 +1,22 @@
+-- `packet_readers::init_channel_list_mode::yarrowbell_rehastim2_read_init_channel_list_mode_ack` meets its contract. Assumes nothing.
+use mathlib.Core.Path.{ap}
+use mir.Syntax.{w8}
+use mir.Val.{SFits}
+use mir.Facts.{to_z-of_z}
+use Rattle.packet_readers.specs.Reports.{as_result}
+use borrow.Author.Rules.{rules}
+use Rattle.packet_readers.proofs.init_channel_list_mode.yarrowbell_rehastim2_read_init_channel_list_mode_ack.Goals as goal
+
+  statement,
+}
+use Rattle.packet_readers.proofs.init_channel_list_mode.yarrowbell_rehastim2_read_init_channel_list_mode_ack.Tie as tie
+use Rattle.packet_readers.proofs.init_channel_list_mode.yarrowbell_rehastim2_read_init_channel_list_mode_ack.Reads as reads
+use Rattle.packet_readers.proofs.init_channel_list_mode.yarrowbell_rehastim2_read_init_channel_list_mode_ack.Lts as lts
+use Rattle.packet_readers.proofs.packet.yarrowbell_rehastim2_read.Reads as yarrowbell-rehastim2-read-reads
+use Rattle.packet_readers.proofs.result.result_for.Reads as result-for-reads
+
+pub returns : goal.returns
+returns c =
+    let r = c.yarrowbell_rehastim2_read-p in
+    let fits : SFits w8 c.result_for.result = search rules in
+    (rw (to_z-of_z fits, c.result_for.ensures) (ap (as_result 31) r.ensures.0), r.ensures.1)

@@ -1,0 +1,24 @@
+-- `reader3::check_right` meets its contract. Assumes nothing.
+use mathlib.Core.Path.{ap, ◌∙◌}
+use Prim.Native.Nat.{◌-◌}
+use native.Mathlib.Omega.{arith}
+use lib.ListN.{length, drop, length-drop}
+use lib.Seq.{take_all}
+use Rattle.crc.specs.Crc.{crc16}
+use Rattle.packets3.specs.Rehamove3.{says, check_right}
+use Rattle.packets3.proofs.Lawful.{check_short}
+use Rattle.reader3.proofs.check_right.Reads as reads
+use Rattle.reader3.proofs.check_right.Lts as lts
+use Rattle.reader3.proofs.is_said.Reads as is-said-reads
+use Rattle.crc.proofs.check16.Reads as check16-reads
+use Rattle.reader3.proofs.check_right.Goals as goal
+
+pub returns-then-b-lt8 : goal.returns-then-b-lt8
+returns-then-b-lt8 c = check_short c.args.b.now (omega arith)
+
+pub returns : goal.returns
+unfolding check_right
+returns c =
+    let b = c.args.b.now in
+    c.is_said.ensures
+    ∙ ap (says (drop 4 b)) (c.check16.ensures ∙ ap crc16 (take_all (length b - 8) (drop 8 b) (rw length-drop (omega arith))))

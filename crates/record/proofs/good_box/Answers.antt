@@ -1,0 +1,13 @@
+use Prim.Native.Nat.{◌≤◌}
+use mathlib.Core.Path.{sym}
+use borrow.Author.Rules.{rules}
+use Rattle.record.proofs.Joins.{box_joined}
+use Rattle.record.proofs.good_box.Goals as goal
+
+clock-fits : (c : tie.Start) → c.args.b.clock ≤ 4294967295
+clock-fits c = search rules
+
+pub returns : goal.returns
+returns c =
+    rw (c.good_partial.ensures, c.good_core.ensures, c.good_ring.ensures, c.good_profile.ensures)
+    (sym (box_joined c.args.b (clock-fits start)))

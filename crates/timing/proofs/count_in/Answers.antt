@@ -1,0 +1,20 @@
+-- The count so far is that of the channels passed.
+use Prim.Native.Nat.{◌-◌}
+use mathlib.Core.Logic.{⊎_elim}
+use mathlib.Core.Bool.{true, false}
+use mathlib.Core.Path.{◌≡◌, sym, ◌∙◌}
+use native.Mathlib.Omega.{arith}
+use Rattle.model.proofs.Turns.{many_turn}
+use Rattle.timing.proofs.count_in.Goals as goal
+
+pub loop-i-preserved : goal.loop-i-preserved
+loop-i-preserved c =
+    let a = c.args in
+    let turn = many_turn c.loop-i.i a.set a.first in
+    let here = c.listed.ensures in
+    ⊎_elim (λ w. omega (arith, turn true (sym w.0.taken ∙ here))) (λ w. omega (arith, turn false (sym w.0.left ∙ here))) c.if-listed.branch
+
+pub returns : goal.returns
+returns c =
+    let e : c.loop-i.i ≡ c.args.n = omega arith in
+    (rw e at c.loop-i.invariant.1, omega arith)

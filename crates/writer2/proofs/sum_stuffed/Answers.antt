@@ -1,0 +1,64 @@
+-- `writer2::sum_stuffed` meets its contract. Assumes nothing.
+-- The loop's invariant: the check of the bytes left, from here on, is the check of all; and so with their size.
+use mathlib.Core.Path.{◌≡◌, refl, sym, ap, ap₂, subst, ◌∙◌}
+use mathlib.Core.Logic.{⊎_elim}
+use Prim.Native.Nat.{ℕ, ◌<◌, ◌-◌, ◌+◌}
+use native.Mathlib.Omega.{arith}
+use borrow.Author.Rules.{rules}
+use lib.Bits.{xor_lt}
+use lib.ListN.{length, drop, get_or}
+use Rattle.crc.specs.Crc.{crc, byte_step}
+use Rattle.crc.proofs.Laws.{looked_up8, byte_lt8}
+use Rattle.stuffing.specs.Stuffing.{stuffed, stuffed_byte}
+use Rattle.stuffing.proofs.Laws.{stuffed_special, stuffed_plain, size_le, turn_length, end, stuffed_nil, stuffed_cons}
+use Rattle.packets.proofs.Checksum.{step_special, step_plain, check_turn, check_end}
+use Rattle.writer2.proofs.sum_stuffed.Goals as goal
+
+pub overflow_cast-check : goal.overflow_cast-check
+overflow_cast-check c = let x = xor_lt 8 c.loop-i.check 129 c.loop-i.invariant.1 (omega arith) in record { fits = omega (arith, x) }
+
+pub bounds-table-check : goal.bounds-table-check
+bounds-table-check c = xor_lt 8 c.loop-i.check 129 c.loop-i.invariant.1 (omega arith)
+
+pub overflow_add-size : goal.overflow_add-size
+overflow_add-size c = record { fits = omega (arith, c.loop-i.invariant.3, c.loop-i.invariant.0, c.requires) }
+
+pub overflow_cast-check-in-loop-i : goal.overflow_cast-check-in-loop-i
+overflow_cast-check-in-loop-i c = let x = xor_lt 8 c.if-is_special.check c.if-is_special.b (search rules) (search rules) in record { fits = omega (arith, x) }
+
+pub bounds-table-check-in-loop-i : goal.bounds-table-check-in-loop-i
+bounds-table-check-in-loop-i c = xor_lt 8 c.if-is_special.check c.if-is_special.b (search rules) (search rules)
+
+pub loop-i-preserved : goal.loop-i-preserved
+loop-i-preserved c =
+    let l = c.loop-i in
+    let s = c.args.c.now in
+    let t = c.remainders8-table in
+    let special = c.is_special in
+    let j = c.if-is_special in
+    let b = get_or s l.i 0 in
+    let stepped : (byte_step 7 7 j.check j.b ≡ crc 7 7 l.check (stuffed_byte b)) × (j.size + 1 ≡ l.size + length (stuffed_byte b)) =
+    ⊎_elim
+    (λ w.
+    let e = sym special.ensures ∙ w.0.taken in
+    (ap₂ (byte_step 7 7) (w.1 ∙ looked_up8 7 _ t.ensures l.check 129 (omega arith) l.invariant.1 (omega arith)) w.3 ∙ step_special 7 7 l.check b e, omega (arith, w.2, ap length (stuffed_special b e))))
+    (λ w.
+    let e = sym special.ensures ∙ w.0.left in
+    (ap₂ (byte_step 7 7) w.1 w.3 ∙ step_plain 7 7 l.check b e, omega (arith, w.2, ap length (stuffed_plain b e)))) j.branch in
+    let e = looked_up8 7 _ t.ensures j.check j.b (omega arith) (search rules) (search rules) in
+    let n = turn_length stuffed_byte stuffed stuffed_nil stuffed_cons s l.i (search rules) in (
+      search rules,
+      subst (λ (n : ℕ). n < 256) (sym e) (byte_lt8 7 j.check j.b (omega arith) (search rules) (search rules)),
+      ap (λ (n : ℕ). crc 7 7 n (stuffed (drop (l.i + 1) s))) (e ∙ stepped.0) ∙ sym (check_turn 7 7 l.check s l.i (search rules)) ∙ l.invariant.2,
+      omega (arith, stepped.1, size_le b _ refl, l.invariant.3),
+      omega (arith, stepped.1, n, l.invariant.4),
+    )
+
+pub returns : goal.returns
+returns c =
+    let l = c.loop-i in
+    let s = c.args.c.now in
+    let h = c.loop-i-test.false in
+    let e : l.check ≡ crc 7 7 0 (stuffed s) = sym (check_end 7 7 l.check s l.i h) ∙ l.invariant.2 in
+    let n : l.size ≡ length (stuffed s) = omega (arith, ap length (end stuffed_byte stuffed stuffed_nil stuffed_cons s l.i h), l.invariant.4) in
+    ap₂ (λ (x y : ℕ). record { check = x; size = y }) e n

@@ -1,0 +1,39 @@
+-- `writer2::write_good` meets its contract. Assumes nothing.
+use mathlib.Core.Path.{ap, ◌∙◌}
+use mathlib.Core.List.{List}
+use Prim.Native.Nat.{ℕ}
+use native.Mathlib.Omega.{arith}
+use lib.ListN.{length, length-take}
+use Rattle.framing.specs.Packet.{size_written, written_to}
+use Rattle.commands2.proofs.DataBytes.{length_data_le}
+use Rattle.packets2.specs.Rehastim2.{header_of}
+use Rattle.writer2.proofs.Written.{data_size, content_is, content_within}
+use Rattle.writer2.proofs.write_good.Reads as reads
+use Rattle.writer2.proofs.write_good.Lts as lts
+use Rattle.commands2.proofs.data_of.Reads as data-of-reads
+use Rattle.commands2.proofs.number.Reads as number-reads
+use Rattle.writer2.proofs.content_of.Reads as content-of-reads
+use Rattle.writer2.proofs.write_content.Reads as write-content-reads
+use Rattle.writer2.proofs.write_good.Goals as goal
+
+pub overflow_add-n : goal.overflow_add-n
+overflow_add-n c = record { fits = omega (arith, data_size _ c.args.c c.data_of-d.ensures, length_data_le c.args.c) }
+
+pub slice_bounds-content-end : goal.slice_bounds-content-end
+slice_bounds-content-end c = content_within c.args.packet _ c.args.c c.number.ensures _ c.data_of-d.ensures _ c.content_of-content.ensures
+
+pub slice_bounds-write_content-end : goal.slice_bounds-write_content-end
+slice_bounds-write_content-end c = let k = content_within c.args.packet _ c.args.c c.number.ensures _ c.data_of-d.ensures _ c.content_of-content.ensures in rw length-take (omega arith)
+
+pub write_content-requires : goal.write_content-requires
+write_content-requires c =
+    let e = content_is c.args.packet _ c.args.c c.number.ensures _ c.data_of-d.ensures _ c.content_of-content.ensures in omega (arith, ap length e, length_data_le c.args.c)
+
+pub returns : goal.returns
+returns c =
+    let a = c.args in
+    let w = c.write_content.ensures in
+    let e = content_is c.args.packet _ c.args.c c.number.ensures _ c.data_of-d.ensures _ c.content_of-content.ensures in (
+      w.0 ∙ ap (λ (l : List ℕ). size_written a.out.now (header_of l) l) e,
+      w.1 ∙ ap (λ (l : List ℕ). written_to a.out.now (header_of l) l) e,
+    )
