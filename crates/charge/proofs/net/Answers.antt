@@ -1,5 +1,5 @@
 -- `charge::net` meets its contract. The loop's invariant: the sum is that of the points passed, and so fits 32 bits. Assumes nothing.
-use mathlib.Core.Path.{◌≡◌, sym, ap, ap₂, ◌∙◌}
+use mathlib.Core.Path.{◌≡◌, refl, sym, ap, ap₂, ◌∙◌}
 use Prim.Native.Nat.{◌+◌, ◌-◌}
 use native.Mathlib.Omega.{arith}
 use lib.ListN.{take, length-take}
@@ -21,6 +21,10 @@ sum-here c =
     let start = c.before.before.before.before in
     ap₂ (λ (x y : ℤ). x +ℤ y) l.invariant.1 (to_z-of_z (record { sfits = c.part.type-inv }) ∙ c.part.ensures)
     ∙ sym (net_turn start.args.t1 l.i no_point (omega (arith, start.well-formed)))
+
+pub loop-i-init : goal.loop-i-init
+unfolding net_of
+loop-i-init c = (search rules, refl)
 
 pub part-sum-requires : goal.part-sum-requires
 part-sum-requires c =

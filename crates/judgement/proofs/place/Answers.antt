@@ -1,11 +1,16 @@
 use Prim.Native.Nat.{◌-◌}
-use mathlib.Core.Path.{◌≡◌, sym, ◌∙◌}
+use mathlib.Core.Path.{◌≡◌, refl, sym, ◌∙◌}
 use native.Mathlib.Nat.{zero-add}
 use native.Mathlib.Omega.{arith}
 use lib.ListN.{length-set}
+use Rattle.model.specs.Channels.{many}
 use Rattle.model.proofs.Turns.{many_turn}
 use Rattle.judgement.proofs.Placing.{place_turn, place_end}
 use Rattle.judgement.proofs.place.Goals as goal
+
+pub loop-i-init : goal.loop-i-init
+unfolding many
+loop-i-init c = (omega arith, refl, refl, omega arith, refl)
 
 pub loop-i-preserved : goal.loop-i-preserved
 loop-i-preserved c =

@@ -1,6 +1,6 @@
 -- `points3::points_in` meets its contract. The loop's invariant: so many points are read, tested and weighed. Assumes nothing.
 use Prim.Native.Nat.{ℕ, ◌+◌, ◌-◌, ◌*◌, ◌%◌}
-use mathlib.Core.Path.{◌≡◌, ap, ap₂, ◌∙◌}
+use mathlib.Core.Path.{◌≡◌, refl, ap, ap₂, ◌∙◌}
 use mathlib.Core.Bool.{Bool, ◌&&◌}
 use mathlib.Core.List.{List}
 use native.Mathlib.Omega.{arith}
@@ -39,6 +39,10 @@ module _ (c : tie.After-struct-told invariant-loop decreases-loop) where
       let w = c.before.before.before.weigh-point in
       let z : to_z w32 (of_z w32 w.result.charge) ≡ w.result.charge = search rules in
       rw (z, add-one i) (ap₂ (λ (x : ℤ) (y : Weighed). x +ℤ y.charge) c.before.before.before.before.before.before.before.loop.invariant.3 weighed ∙ parts_more i d)
+
+pub loop-i-init : goal.loop-i-init
+unfolding points_in points_right parts_of
+loop-i-init c = (omega arith, refl, refl, refl)
 
 pub overflow_mul-i : goal.overflow_mul-i
 overflow_mul-i c = record { fits = omega arith }

@@ -4,8 +4,14 @@ use mathlib.Core.Logic.{⊎_elim}
 use mathlib.Core.Bool.{true, false}
 use mathlib.Core.Path.{◌≡◌, sym, ◌∙◌}
 use native.Mathlib.Omega.{arith}
+use borrow.Author.Rules.{rules}
+use Rattle.model.specs.Channels.{many}
 use Rattle.model.proofs.Turns.{many_turn}
 use Rattle.timing.proofs.count_in.Goals as goal
+
+pub loop-i-init : goal.loop-i-init
+unfolding many
+loop-i-init c = search rules
 
 pub loop-i-preserved : goal.loop-i-preserved
 loop-i-preserved c =

@@ -23,6 +23,10 @@ overflow_cast-result c =
     let h : 7 - a.low ≤ 8 = omega arith in
     rw c.take_field-2.ensures (record { fits = lt_of_lt_of_le (field_lt _ a.low (7 - a.low)) (pow_mono h) })
 
+pub overflow_cast-result-2 : goal.overflow_cast-result-2
+unfolding below
+overflow_cast-result-2 c = omega arith
+
 pub returns : goal.returns
 unfolding entry_in below
 returns c =
