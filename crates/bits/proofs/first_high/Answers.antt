@@ -1,5 +1,4 @@
 -- The place so far and the search of the rest make the whole search.
-use Prim.Native.Nat.{◌-◌}
 use mathlib.Core.Path.{sym, ◌∙◌}
 use native.Mathlib.Omega.{arith}
 use Rattle.bits.proofs.Highs.{high_here, high_on, high_end}

@@ -1,5 +1,4 @@
 -- What is left of the entries is good exactly if all of them are.
-use Prim.Native.Nat.{◌-◌}
 use mathlib.Core.Bool.{true, false}
 use mathlib.Core.Path.{◌≡◌, sym, ◌∙◌}
 use native.Mathlib.Nat.{sub-zero}
@@ -17,19 +16,19 @@ pub loop-i-preserved : goal.loop-i-preserved
 loop-i-preserved c =
     let l = c.loop-i in
     let a = c.args in
-    let t = good_turn a.t1 l.i a.count (omega (arith, c.well_formed)) in
-    let g : good_entry (get_or a.t1 l.i no_setting) (ltb l.i a.count) ≡ true = sym c.good_entry.ensures ∙ c.if-good_entry.true in
+    let t = good_turn a.entries l.i a.count (omega (arith, c.well_formed)) in
+    let g : good_entry (get_or a.entries l.i no_setting) (ltb l.i a.count) ≡ true = sym c.good_entry.ensures ∙ c.if-good_entry.true in
     (omega arith, sym (rw g at t) ∙ l.invariant.1)
 
 pub returns-else-good_entry : goal.returns-else-good_entry
 returns-else-good_entry c =
     let l = c.loop-i in
     let a = c.args in
-    let t = good_turn a.t1 l.i a.count (omega (arith, c.well_formed)) in
-    let g : good_entry (get_or a.t1 l.i no_setting) (ltb l.i a.count) ≡ false = sym c.good_entry.ensures ∙ c.if-good_entry.false in
+    let t = good_turn a.entries l.i a.count (omega (arith, c.well_formed)) in
+    let g : good_entry (get_or a.entries l.i no_setting) (ltb l.i a.count) ≡ false = sym c.good_entry.ensures ∙ c.if-good_entry.false in
     sym (rw g at t) ∙ l.invariant.1
 
 pub returns : goal.returns
 returns c =
-    let end = good_end c.args.t1 c.loop-i.i c.args.count (omega (arith, c.well_formed)) in
+    let end = good_end c.args.entries c.loop-i.i c.args.count (omega (arith, c.well_formed)) in
     sym end ∙ c.loop-i.invariant.1
