@@ -101,7 +101,7 @@ module _ {M : Type 1} {𝓤 : Ura M} (𝓛 : Logic 𝓤) (at_mem : Memory → SP
   to_step = (((κ', tt), (q', tt), tt, (h, (x, (at, (n, tt)))), (box_val h ∷ [], (s ∷ [], (part_val at ∷ [], (vint w8 n ∷ [], tt))))), tt)
 
   -- the step's `pre`, from the token and the buffer alone
-  goes_step : Is T.the_row h (box_val h ∷ []) → ent 𝓤 (sep 𝓤 (sep 𝓤 (A.lft κ' q') (sem 𝓛 ftrue)) (sem 𝓛 ((MutSlice (named 0) κ' u8).own_val x (s ∷ [])))) ((Step 𝓛 at_mem run).pre to_step)
+  goes_step : Is T.the_row h (box_val h ∷ []) → ent 𝓤 (sep 𝓤 (sep 𝓤 (A.lft κ' q') (sem 𝓛 ftrue)) (sem 𝓛 ((MutSlice (named 0) κ' u8).own_val x (s ∷ [])))) ((Step 𝓛 at_mem run).requires to_step)
   goes_step was =
       qed 𝓛 ((‵ (flft κ' q') ⊛ ‵ ftrue) ∷ ‵ ((MutSlice (named 0) κ' u8).own_val x (s ∷ [])) ∷ []) ∵ nothing ! $
       owned ! u8 (Is u8) (uint_Makes 𝓛 w8) n _ (refl, n-fits) $ fjoin ! $ owned ! P.the_row (Is P.the_row) (LL.makes P.the_type P'.the_plain 𝓛) at _ is_at $ fjoin ! $ move ! (2 ∷ 0 ∷ []) $ fjoin ! $
@@ -132,7 +132,7 @@ module _ {M : Type 1} {𝓤 : Ura M} (𝓛 : Logic 𝓤) (at_mem : Memory → SP
         assigns ! (addr ! (from ! (fld ! refl (hop ! (look_in ! 18 (sub ! 0 refl (whole !))) (stop !))))) (from ! (stop !)) (init ! 8 refl (tt, tt)) $
         assigns ! (agg ! (and_then ! (load ! (from ! (stop !)) (look ! 8 refl)) (and_then ! (load ! (from ! (fld ! refl (stop !))) (look_in ! 18 (sub ! 1 refl (whole !)))) (no_more !)))) (from ! (stop !)) (init ! 6 refl (tt, (tt, (record { fits = room.0 }, tt)))) $
         -- the call
-        move ! (5 ∷ []) $ fsplit ! $ move ! (6 ∷ 0 ∷ []) $ use2 𝓛 (raw ((Step 𝓛 at_mem run).pre to_step)) (goes_step was) $
+        move ! (5 ∷ []) $ fsplit ! $ move ! (6 ∷ 0 ∷ []) $ use2 𝓛 (raw ((Step 𝓛 at_mem run).requires to_step)) (goes_step was) $
         calls_at ! fm (Step 𝓛 at_mem run) known to_step
         (and_then ! (load ! (from ! (stop !)) (look ! 10 refl)) (and_then ! (load ! (from ! (stop !)) (look ! 6 refl)) (and_then ! (load ! (from ! (stop !)) (look ! 16 refl)) (and_then ! (load ! (from ! (stop !)) (look ! 14 refl)) (no_more !))))) (λ w.
         use1 𝓛 (later (some (λ (r : Called). ((‵ (flft κ' q') ⊛ ‵ ftrue) ⊛ ‵ ((K.the_row).own_val r (w ∷ []))) ⊛ raw (ensured 𝓛 g.ended (g.clauses 𝓛 at_mem run) (κ', tt) (h, (x, (at, (n, tt)))) tt r)))) (id⊢ 𝓤 _) $ await ! tt $ pick ! (λ r.

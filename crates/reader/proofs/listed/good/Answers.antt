@@ -1,5 +1,5 @@
 -- The test so far, and that of the entries that are left, is that of all.
-use Prim.Native.Nat.{◌-◌, ◌<◌}
+use Prim.Native.Nat.{◌<◌}
 use mathlib.Core.Bool.{and-true}
 use mathlib.Core.Path.{sym, ◌∙◌}
 use native.Mathlib.Nat.{sub-zero}
@@ -16,13 +16,13 @@ pub loop-i-preserved : goal.loop-i-preserved
 loop-i-preserved c =
     let l = c.loop-i in
     let a = c.args in
-    let k : l.i < length a.t2 = omega (arith, c.well_formed) in
-    (omega arith, rw c.good_setting-good.ensures (good_rest a.t2 a.count l.i l.good (omega arith) k ∙ l.invariant.1))
+    let k : l.i < length a.entries = omega (arith, c.well_formed) in
+    (omega arith, rw c.good_setting-good.ensures (good_rest a.entries a.count l.i l.good (omega arith) k ∙ l.invariant.1))
 
 pub returns : goal.returns
 unfolding good_entries
 returns c =
     let a = c.args in
     let l = c.loop-i in
-    let e = rest_end a.t2 a.count l.i c.loop-i-test.false in
+    let e = rest_end a.entries a.count l.i c.loop-i-test.false in
     sym (and-true _) ∙ rw e at l.invariant.1

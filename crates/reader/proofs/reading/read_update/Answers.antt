@@ -13,7 +13,7 @@ returns c =
     let l = c.entries_in-entries in
     let first = c.check_of.ensures in
     let check = c.check.ensures ∙ rw (← l.ensures) at (check_listed_in a.s.now a.count) in
-    let good = c.good2.ensures ∙ rw (← l.ensures) at (good_listed_in a.s.now a.count) in
+    let good = c.good.ensures ∙ rw (← l.ensures) at (good_listed_in a.s.now a.count) in
     rw (← l.ensures)
     (c.judged.ensures
     ∙ judged_as _ (update a.count l.result) (ap₂ eqb first check) (ap₂ ◌&&◌ c.good_count.ensures good)

@@ -1,4 +1,4 @@
-use Prim.Native.Nat.{◌+◌, ◌*◌, ◌-◌, ◌<◌}
+use Prim.Native.Nat.{◌+◌, ◌*◌, ◌<◌}
 use mathlib.Core.Path.{◌≡◌, refl, sym, ap, ◌∙◌}
 use native.Mathlib.Nat.{sub-zero}
 use native.Mathlib.Omega.{arith}
@@ -18,19 +18,19 @@ loop-i-init c = (rw sub-zero, simp sub-zero, refl, omega arith)
 pub put_entry-requires : goal.put_entry-requires
 put_entry-requires c =
     let l = c.loop-i in
-    let g = listed_good c.args.t2 c.args.count l.i c.requires.2 c.loop-i-test.true in
-    (omega arith, omega arith, (setting_fits (get_or c.args.t2 l.i no_setting) g).lead_fits, omega arith)
+    let g = listed_good c.args.entries c.args.count l.i c.requires.2 c.loop-i-test.true in
+    (omega arith, omega arith, (setting_fits (get_or c.args.entries l.i no_setting) g).lead_fits, omega arith)
 
 pub loop-i-preserved : goal.loop-i-preserved
 loop-i-preserved c =
     let put = c.put_entry in
     let l = c.loop-i in
     let a = c.args in
-    let k : l.i < length a.t2 = omega (arith, c.well_formed) in
-    let v = get_or a.t2 l.i no_setting in
-    let e : put.new.1.1.1.1.0 ≡ sets l.out (1 + 3 * l.i) (entry_bytes 5 v.mode v.width v.current) = put.ensures in (
-      rw e (write_turn a.t2 a.count l.i l.out (omega arith) k ∙ l.invariant.0),
-      rw c.plus_entry-remainder.ensures (entry_turn l.remainder v _ ∙ rw (rest_turn a.t2 a.count l.i (omega arith) k) at l.invariant.1),
+    let k : l.i < length a.entries = omega (arith, c.well_formed) in
+    let v = get_or a.entries l.i no_setting in
+    let e : put.new.out ≡ sets l.out (1 + 3 * l.i) (entry_bytes 5 v.mode v.width v.current) = put.ensures in (
+      rw e (write_turn a.entries a.count l.i l.out (omega arith) k ∙ l.invariant.0),
+      rw c.plus_entry-remainder.ensures (entry_turn l.remainder v _ ∙ rw (rest_turn a.entries a.count l.i (omega arith) k) at l.invariant.1),
       ap length e ∙ simp length-sets l.invariant.2,
       omega arith,
     )
@@ -43,8 +43,8 @@ unfolding settings_bytes
 returns c =
     let a = c.args in
     let l = c.loop-i in
-    let e = rest_end a.t2 a.count l.i c.loop-i-test.false in (
-      sym (entry_end l.remainder) ∙ rw e at l.invariant.1 ∙ check_as_one_goes (update a.count (take a.count a.t2))
-          ∙ check_listed a.count a.t2 c.requires.2 (omega (arith, c.well_formed)),
+    let e = rest_end a.entries a.count l.i c.loop-i-test.false in (
+      sym (entry_end l.remainder) ∙ rw e at l.invariant.1 ∙ check_as_one_goes (update a.count (take a.count a.entries))
+          ∙ check_listed a.count a.entries c.requires.2 (omega (arith, c.well_formed)),
       rw e at l.invariant.0,
     )
