@@ -3,39 +3,54 @@ use crate::words::HEX;
 use crate::{tell, words};
 use model::Profile;
 use record::Box;
+use std::io;
 use trace::Part;
 
 // The frame of a Stop.
 const STOP: u8 = 0xC0;
 
 // make: a box, or the all-zero record of a refusal.
-pub fn make(p: Profile, capacity: u32) -> Box {
+pub fn make(rt: &impl Print, p: Profile, capacity: u32) -> io::Result<Box> {
     let m = making::make(p, capacity);
-    tell::answer(m.answer);
-    m.made
+    tell::answer(rt, m.answer)?;
+    Ok(m.made)
 }
 
-fn byte(g: Box, buf: &mut [u8; 4112], at: Part, n: u8) -> Box {
+fn byte(rt: &impl Print, g: Box, buf: &mut [u8; 4112], at: Part, n: u8) -> io::Result<Box> {
     let t = guard::byte(g, buf, at, n);
     let said = t.said;
-    tell::said(said);
-    t.next
+    tell::said(rt, said)?;
+    Ok(t.next)
 }
 
-fn bytes(g: Box, buf: &mut [u8; 4112], at: Part, line: &[u8], count: usize) -> Box {
+fn bytes(
+    rt: &impl Print,
+    g: Box,
+    buf: &mut [u8; 4112],
+    at: Part,
+    line: &[u8],
+    count: usize,
+) -> io::Result<Box> {
     let mut next = g;
     for i in 0..count {
-        next = byte(next, buf, at, words::byte(words::nth(line, i + 1, HEX)));
+        next = byte(rt, next, buf, at, words::byte(words::nth(line, i + 1, HEX)))?;
     }
-    next
+    Ok(next)
 }
 
 // send BYTES: each byte's answer, its reply in brackets, its pulse.
-pub fn send(g: Box, buf: &mut [u8; 4112], at: Part, line: &[u8], count: usize) -> Box {
-    tell::text(b" ");
-    let next = bytes(g, buf, at, line, count);
-    tell::line_end();
-    next
+pub fn send(
+    rt: &impl Print,
+    g: Box,
+    buf: &mut [u8; 4112],
+    at: Part,
+    line: &[u8],
+    count: usize,
+) -> io::Result<Box> {
+    tell::text(rt, b" ")?;
+    let next = bytes(rt, g, buf, at, line, count)?;
+    tell::line_end(rt)?;
+    Ok(next)
 }
 
 // stops COUNT: so many Stops. The trace tells what came of them.
@@ -49,47 +64,61 @@ pub fn stops(g: Box, buf: &mut [u8; 4112], at: Part, count: u32) -> Box {
     next
 }
 
-fn tick(g: Box, buf: &mut [u8; 4112], at: Part) -> Box {
+fn tick(rt: &impl Print, g: Box, buf: &mut [u8; 4112], at: Part) -> io::Result<Box> {
     let t = guard::tick(g, buf, at);
     let said = t.said;
-    tell::ticked(said);
-    t.next
+    tell::ticked(rt, said)?;
+    Ok(t.next)
 }
 
 // tick COUNT: pulses and answers other than 0, then the clock and the state.
-pub fn ticks(g: Box, buf: &mut [u8; 4112], at: Part, count: u32) -> Box {
+pub fn ticks(
+    rt: &impl Print,
+    g: Box,
+    buf: &mut [u8; 4112],
+    at: Part,
+    count: u32,
+) -> io::Result<Box> {
     let mut next = g;
     let mut left = count;
     while 0 < left {
-        next = tick(next, buf, at);
+        next = tick(rt, next, buf, at)?;
         left -= 1;
     }
-    tell::reached(next);
-    next
+    tell::reached(rt, next)?;
+    Ok(next)
 }
 
-fn read_to(g: Box, buf: &[u8; 4112], at: Part, out: &mut [u8], room: usize) {
+fn read_to(
+    rt: &impl Print,
+    g: Box,
+    buf: &[u8; 4112],
+    at: Part,
+    out: &mut [u8],
+    room: usize,
+) -> io::Result<()> {
     if out.len() < room {
-        tell::unreadable();
+        tell::unreadable(rt)
     } else {
         let r = guard::readout(g, buf, at, &mut out[0..room]);
-        tell::readout(r, out);
+        tell::readout(rt, r, out)
     }
 }
 
 // read ROOM: the readout to an output of so many bytes, at most 4,096.
-pub fn read(g: Box, buf: &[u8; 4112], at: Part, room: u32) {
-    let mut out = io::buffer();
-    read_to(g, buf, at, &mut out, room as usize);
+pub fn read(rt: &impl Print, g: Box, buf: &[u8; 4112], at: Part, room: u32) -> io::Result<()> {
+    let mut out = [0u8; 4096];
+    read_to(rt, g, buf, at, &mut out, room as usize)
 }
 
 // frame CHANNELS BYTES: the reader of one frame.
-pub fn frame(line: &[u8], end: usize) {
+pub fn frame(rt: &impl Print, line: &[u8], end: usize) -> io::Result<()> {
     let s = words::bytes(line);
     let channels = words::nth(line, 1, HEX) as usize;
     if 1 <= end {
         if end <= 32 {
-            tell::frame(reader::read_frame(&s[1..end], channels));
+            tell::frame(rt, reader::read_frame(&s[1..end], channels))?;
         }
     }
+    Ok(())
 }

@@ -1,6 +1,5 @@
 // What a line of a script asks for: its first word, and the numbers behind it.
-use crate::words;
-use bytes::scan;
+use crate::{scan, words};
 
 // An empty line, or a remark.
 pub const NOTHING: u64 = 0;
@@ -55,14 +54,14 @@ fn takes(word: u64, count: usize) -> bool {
 
 // The first word where its numbers suit it.
 fn meant(line: &[u8], word: u64, count: usize) -> u64 {
-    if scan::find(line, 0, line.len(), b'#') == 0 {
+    if scan::find(line, 0, b'#') == 0 {
         return NOTHING;
     }
     if takes(word, count) { word } else { UNREADABLE }
 }
 
 pub fn read(line: &[u8]) -> Asked {
-    let end = scan::find(line, 0, line.len(), b' ');
+    let end = scan::find(line, 0, b' ');
     let word = words::letters(&line[0..end]);
     let count = words::count(line, (word == SEND) | (word == FRAME));
     Asked {

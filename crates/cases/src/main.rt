@@ -3,18 +3,20 @@
 #![tactic(auto)]
 
 mod box_calls;
+mod input;
 mod lines;
 mod outside;
 mod play;
+mod scan;
 mod steps;
 mod tell;
 mod words;
 
-use libc::STDIN_FILENO;
+use std::io;
 
 // A script has at most 65,536 bytes: what stands behind them is not read.
-fn main() {
-    let mut text = io::large_buffer();
-    let n = io::read_full(STDIN_FILENO, &mut text);
-    play::script(&text[..n]);
+fn main(rt: HostRuntime) -> io::Result<()> {
+    let mut text = [0u8; 65536];
+    let n = input::read_full(&rt, &mut text)?;
+    play::script(&rt, &text[..n])
 }

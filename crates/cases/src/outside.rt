@@ -3,6 +3,7 @@ use crate::words::DECIMAL;
 use crate::{tell, words};
 use model::Profile;
 use record::Box;
+use std::io;
 
 // The profile in CAPACITY WATCHDOG SHORTEST CURRENT WIDTH CHARGE: all channels alike.
 pub fn profile(line: &[u8]) -> Profile {
@@ -16,32 +17,32 @@ pub fn profile(line: &[u8]) -> Profile {
 }
 
 // A profile with other limits for the channel at a place.
-fn limited(p: Profile, i: usize, current: u8, width: u16) -> Profile {
+fn limited(rt: &impl Print, p: Profile, i: usize, current: u8, width: u16) -> io::Result<Profile> {
     let mut next = p;
     if i < 8 {
         next.currents[i] = current;
         next.widths[i] = width;
     } else {
-        tell::unreadable();
+        tell::unreadable(rt)?;
     }
-    next
+    Ok(next)
 }
 
 // The limits of one channel, in NUMBER CURRENT WIDTH.
-fn limits(p: Profile, line: &[u8]) -> Profile {
-    let i = std::num::wrapping_sub_u32(words::nth(line, 1, DECIMAL), 1);
+fn limits(rt: &impl Print, p: Profile, line: &[u8]) -> io::Result<Profile> {
+    let i = words::nth(line, 1, DECIMAL).wrapping_sub(1);
     let current = words::byte(words::nth(line, 2, DECIMAL));
     let width = words::short(words::nth(line, 3, DECIMAL));
-    limited(p, i as usize, current, width)
+    limited(rt, p, i as usize, current, width)
 }
 
 // channel NUMBER CURRENT WIDTH: other limits for one channel.
-pub fn channel(g: Box, line: &[u8]) -> Box {
+pub fn channel(rt: &impl Print, g: Box, line: &[u8]) -> io::Result<Box> {
     let old = g.profile;
-    let p = limits(old, line);
+    let p = limits(rt, old, line)?;
     let mut next = g;
     next.profile = p;
-    next
+    Ok(next)
 }
 
 // clock NUMBER: another clock.
@@ -61,12 +62,13 @@ pub fn hold(g: Box, line: &[u8]) -> Box {
 }
 
 // put PLACE NUMBER: another byte of the lent buffer.
-pub fn put(buf: &mut [u8; 4112], line: &[u8]) {
+pub fn put(rt: &impl Print, buf: &mut [u8; 4112], line: &[u8]) -> io::Result<()> {
     let place = words::nth(line, 1, DECIMAL) as usize;
     let n = words::byte(words::nth(line, 2, DECIMAL));
     if place < 4112 {
         buf[place] = n;
+        Ok(())
     } else {
-        tell::unreadable();
+        tell::unreadable(rt)
     }
 }

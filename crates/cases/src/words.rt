@@ -1,5 +1,5 @@
 // The words and the numbers of a script's line.
-use bytes::scan;
+use crate::scan;
 
 // How the digits of a number are read.
 pub const DECIMAL: bool = false;
@@ -74,7 +74,7 @@ fn start(line: &[u8], word: usize) -> usize {
         if left == 0 {
             return at;
         }
-        at = scan::find(line, at, line.len(), b' ') + 1;
+        at = scan::find(line, at, b' ') + 1;
         left -= 1;
     }
     at
