@@ -1,6 +1,6 @@
 -- Laws of bytes compared. Assumes nothing.
 use Prim.Native.Nat.{ℕ, ◌+◌, ◌≤◌, ◌<◌}
-use mathlib.Core.Bool.{true, false, ◌&&◌, false≢true, and_false}
+use mathlib.Core.Bool.{true, false, ◌&&◌, false≢true, and-false}
 use mathlib.Core.Path.{◌≡◌, refl, ap, ap₂}
 use mathlib.Core.List.{List, [], ◌∷◌, ◌++◌}
 use native.Mathlib.Numerals.{add-one}
@@ -47,7 +47,7 @@ pub starts_short : (t s : List ℕ) → length s < length t → starts t s ≡ f
 unfolding starts
 starts_short [] s h = absurd (omega arith)
 starts_short (b ∷ t) [] h = refl
-starts_short (b ∷ t) (x ∷ s) h = rw (starts_short t s (omega arith)) (and_false (eqb x b))
+starts_short (b ∷ t) (x ∷ s) h = rw (starts_short t s (omega arith)) (and-false (eqb x b))
 
 pub starts_on : (t s : List ℕ) (i : ℕ) → i < length t → i < length s
     → starts (drop i t) (drop i s) ≡ eqb (get_or s i 0) (get_or t i 0) && starts (drop (i + 1) t) (drop (i + 1) s)

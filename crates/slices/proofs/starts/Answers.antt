@@ -1,9 +1,7 @@
 -- `slices::starts` meets its contract. The loop's invariant: the bytes left stand in front of the rest exactly if all do. Assumes nothing.
-use Prim.Native.Nat.{◌-◌}
 use mathlib.Core.Path.{sym, ◌∙◌}
 use borrow.Author.Rules.{rules}
 use borrow.Author.Tests.{eq-eqb, ne_eqb}
-use Rattle.slices.specs.Starts as specs
 use Rattle.slices.proofs.Compared.{starts_short, starts_on, starts_end}
 use Rattle.slices.proofs.starts.Goals as goal
 

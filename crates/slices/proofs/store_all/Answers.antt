@@ -1,5 +1,4 @@
 -- `slices::store_all` meets its contract. The loop's invariant: the bytes left, stored from here on, make what is wanted. Assumes nothing.
-use Prim.Native.Nat.{◌-◌}
 use mathlib.Core.Path.{refl, sym, ◌∙◌}
 use native.Mathlib.Nat.{add-zero}
 use borrow.Author.Rules.{rules}
