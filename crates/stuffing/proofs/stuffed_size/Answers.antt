@@ -1,6 +1,5 @@
 -- `stuffing::stuffed_size` meets its contract. The loop's invariant: n and what the bytes left become make the whole. Assumes nothing.
 use mathlib.Core.Path.{ap}
-use Prim.Native.Nat.{◌-◌}
 use native.Mathlib.Nat.{zero-add}
 use native.Mathlib.Omega.{arith}
 use borrow.Author.Rules.{rules}

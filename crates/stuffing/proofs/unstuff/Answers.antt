@@ -3,17 +3,16 @@
 use mathlib.Core.Path.{◌≡◌, refl, sym, ap, ap₂, ◌∙◌}
 use mathlib.Core.Bool.{Bool, true, false, not, cond, ◌&&◌, and_assoc}
 use mathlib.Core.List.{List, ◌∷◌}
-use mathlib.Core.Logic.{⊎_elim}
-use Prim.Native.Nat.{ℕ, ◌<◌, ◌-◌, ◌+◌}
+use Prim.Native.Nat.{ℕ, ◌<◌, ◌+◌}
 use native.Mathlib.Nat.{zero-add}
 use native.Mathlib.Omega.{arith}
 use borrow.Author.Rules.{rules}
-use borrow.Author.Tests.{not-true, not-false}
 use lib.ListN.{length, drop, length-set}
 use Rattle.stuffing.specs.Stuffing.{pairs_good, unstuffed}
 use Rattle.stuffing.proofs.Laws.{good_on, good_end, size_on, unstuffed_none, unstuffed_one, unstuffed_end}
 use Rattle.slices.proofs.Overlay.{from, from_on, from_end}
 use Rattle.stuffing.proofs.unstuff.Goals as goal
+use Rattle.stuffing.proofs.unstuff.Goals.{then-not-opens, else-not-opens}
 
 pub loop-i-init : goal.loop-i-init
 loop-i-init c = (search rules, search rules, refl, refl, zero-add _, refl)
@@ -30,32 +29,32 @@ loop-i-preserved c =
     ∙ ap (λ (t : Bool). l.good && t)
     (ap₂ (λ (t u : Bool). not t && pairs_good u r) c.is_wrong.ensures o.ensures ∙ sym (good_on l.after s l.i h)) ∙ l.invariant.3 in
     let n = size_on l.after s l.i o.result h o.ensures in
-    ⊎_elim
-    (λ w.
-    let e : o.result ≡ false = not-true o.result w.0.taken in
-    let one : cond {A = ℕ} o.result 0 1 ≡ 1 = ap (λ (t : Bool). cond {A = ℕ} t 0 1) e in
-    rw (w.6 ∙ w.3.ensures, w.7) (
-      omega arith,
-      omega arith,
-      length-set l.out l.size w.1.result ∙ l.invariant.2,
-      g,
-      omega arith,
-      from_on l.size w.1.result (unstuffed o.result r) l.out
-          ∙ ap (λ (x : List ℕ). from l.size x l.out)
-          (ap₂ (λ (n : ℕ) (t : Bool). n ∷ unstuffed t r) w.1.ensures e ∙ sym (unstuffed_one l.after s l.i h (sym o.ensures ∙ e))) ∙ l.invariant.5,
-    ))
-    (λ w.
-    let e : o.result ≡ true = not-false o.result w.0.left in
-    let none : cond {A = ℕ} o.result 0 1 ≡ 0 = ap (λ (t : Bool). cond {A = ℕ} t 0 1) e in
-    rw (w.1, w.2) (
-      omega arith,
-      omega arith,
-      l.invariant.2,
-      g,
-      omega arith,
-      ap (λ (x : List ℕ). from l.size x l.out) (ap (λ (t : Bool). unstuffed t r) e ∙ sym (unstuffed_none l.after s l.i h (sym o.ensures ∙ e))) ∙ l.invariant.5,
-    ))
-    c.if-not-opens.branch
+    elim c.if-not-opens.branch [
+      | then-not-opens w ↦
+          let e : o.result ≡ false = w.if-not-opens.true in
+          let one : cond {A = ℕ} o.result 0 1 ≡ 1 = ap (λ (t : Bool). cond {A = ℕ} t 0 1) e in
+          rw (w.out-is ∙ w.put.ensures, w.size-is) (
+            omega arith,
+            omega arith,
+            length-set l.out l.size w.plain-p.result ∙ l.invariant.2,
+            g,
+            omega arith,
+            from_on l.size w.plain-p.result (unstuffed o.result r) l.out
+                ∙ ap (λ (x : List ℕ). from l.size x l.out)
+                (ap₂ (λ (n : ℕ) (t : Bool). n ∷ unstuffed t r) w.plain-p.ensures e ∙ sym (unstuffed_one l.after s l.i h (sym o.ensures ∙ e))) ∙ l.invariant.5,
+          )
+      | else-not-opens w ↦
+          let e : o.result ≡ true = w.if-not-opens.false in
+          let none : cond {A = ℕ} o.result 0 1 ≡ 0 = ap (λ (t : Bool). cond {A = ℕ} t 0 1) e in
+          rw (w.out-is, w.size-is) (
+            omega arith,
+            omega arith,
+            l.invariant.2,
+            g,
+            omega arith,
+            ap (λ (x : List ℕ). from l.size x l.out) (ap (λ (t : Bool). unstuffed t r) e ∙ sym (unstuffed_none l.after s l.i h (sym o.ensures ∙ e))) ∙ l.invariant.5,
+          )
+    ]
 
 pub returns : goal.returns
 returns c =
