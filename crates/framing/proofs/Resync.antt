@@ -1,7 +1,7 @@
 -- Resynchronisation: after any bytes that do not end in a stuffing byte, a packet that alone is whole is found as if it stood alone; and one that
 -- was written is whole alone. Assumes nothing.
 use mathlib.Core.Path.{◌≡◌, refl, sym, ap, ◌∙◌}
-use mathlib.Core.Bool.{Bool, true, false, cond, and_false}
+use mathlib.Core.Bool.{Bool, true, false, cond, and-false}
 use mathlib.Core.List.{List, [], ◌∷◌, ◌++◌, map}
 use Prim.Native.Nat.{ℕ, suc, ◌+◌, ◌-◌, ◌≤◌, ◌<◌}
 use native.Mathlib.Nat.{add-zero, zero-add, add_comm}
@@ -105,7 +105,7 @@ not_one (b ∷ l) prev body at h k e = by (closes prev body b) (opens prev b) (�
 starts : (p : List ℕ) → scan 0 0 0 p ≡ packet_found 1 (length p) → (l : List ℕ) × (p ≡ start_byte ∷ l)
 unfolding scan closes opened opens
 starts [] e = absurd (omega (arith, ap (λ (f : Found). f.body) e))
-starts (b ∷ l) e = by (eqb b start_byte) refl (rw (and_false (eqb b stop_byte)) at e)
+starts (b ∷ l) e = by (eqb b start_byte) refl (rw (and-false (eqb b stop_byte)) at e)
   where
     by : (t : Bool) → eqb b start_byte ≡ t → scan b (cond t 1 0) 1 l ≡ packet_found 1 (suc (length l)) → (r : List ℕ) × (b ∷ l ≡ start_byte ∷ r)
     by true p q = (l, ap (λ (n : ℕ). n ∷ l) (eqb-true b start_byte p))

@@ -1,8 +1,6 @@
 -- `framing::block_end` meets its contract. Assumes nothing.
 use Prim.Native.Nat.{◌-◌}
 use borrow.Author.Tests.{le-leb, lt-leb}
-use Rattle.framing.proofs.block_end.Reads as reads
-use Rattle.framing.proofs.block_end.Lts as lts
 use Rattle.framing.proofs.block_end.Goals as goal
 
 pub returns-then-n-at-ge-BLOCK : goal.returns-then-n-at-ge-BLOCK

@@ -7,9 +7,6 @@ use borrow.Author.Tests.{le-leb, lt-leb}
 use lib.ListN.{length, take, drop}
 use Rattle.stuffing.specs.Stuffing.{any_special}
 use Rattle.framing.specs.Blocks.{quiet}
-use Rattle.framing.proofs.is_quiet.Reads as reads
-use Rattle.framing.proofs.is_quiet.Lts as lts
-use Rattle.stuffing.proofs.any_special.Reads as any-special-reads
 use Rattle.framing.proofs.is_quiet.Goals as goal
 
 pub returns-then-s-at-ge-BLOCK : goal.returns-then-s-at-ge-BLOCK

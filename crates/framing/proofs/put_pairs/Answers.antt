@@ -1,6 +1,5 @@
 -- `framing::put_pairs` meets its contract. The loop's invariant: the bytes left, put from here on, make what is wanted. Assumes nothing.
 use mathlib.Core.Path.{sym, ap, ◌∙◌}
-use Prim.Native.Nat.{◌-◌}
 use native.Mathlib.Omega.{arith}
 use borrow.Author.Rules.{rules}
 use lib.ListN.{length}
@@ -21,8 +20,8 @@ loop-i-preserved c =
     let l = c.loop-i in
     let s = c.args.bytes.now in
     let p = c.put_pair-to in
-    let t = again pair pairs pairs_nil pairs_cons l.out p.new.0 l.to p.result s l.i (search rules) p.ensures.0 p.ensures.1 in
-    (search rules, p.auto.0 ∙ l.invariant.1, t.0 ∙ l.invariant.2, t.1 ∙ l.invariant.3)
+    let t = again pair pairs pairs_nil pairs_cons l.out p.new.out l.to p.result s l.i (search rules) p.ensures.0 p.ensures.1 in
+    (search rules, p.auto.out ∙ l.invariant.1, t.0 ∙ l.invariant.2, t.1 ∙ l.invariant.3)
 
 pub returns : goal.returns
 returns c =

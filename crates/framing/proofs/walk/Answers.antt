@@ -1,8 +1,7 @@
 -- `framing::walk` meets its contract. The loop's invariant: what the scan finds from here on is what it finds from the start on. Assumes nothing.
 use mathlib.Core.Path.{◌≡◌, refl, sym, ap, ◌∙◌}
 use mathlib.Core.Bool.{Bool, cond}
-use mathlib.Core.Logic.{⊎_elim}
-use Prim.Native.Nat.{ℕ, ◌<◌, ◌-◌, ◌+◌}
+use Prim.Native.Nat.{ℕ, ◌<◌, ◌+◌}
 use native.Mathlib.Omega.{arith}
 use borrow.Author.Rules.{rules}
 use borrow.Author.Tests.{ne_eqb}
@@ -12,6 +11,7 @@ use Rattle.framing.specs.Scan.{scan}
 use Rattle.framing.proofs.Finding.{opened_yes, opened_no, scan_found, scan_on}
 use Rattle.framing.proofs.Blocks.{scan_unmarked}
 use Rattle.framing.proofs.walk.Goals as goal
+use Rattle.framing.proofs.walk.Goals.{then-is_mark+else-is_close+then-is_open, then-is_mark+else-is_close+else-is_open, else-is_mark}
 
 pub loop-at-init : goal.loop-at-init
 loop-at-init c = (c.requires.0, refl)
@@ -33,18 +33,17 @@ loop-at-preserved c =
     let b = get_or s l.at 0 in
     let h : l.at < length s = omega (arith, c.loop-at-test.true, c.requires.1) in (
       search rules,
-      ⊎_elim
-          (λ w.
-          ap (λ (n : ℕ). scan b n (l.at + 1) (drop (l.at + 1) s)) (w.5 ∙ opened_yes l.prev l.body b l.at (sym w.3.ensures ∙ w.4.taken))
-          ∙ sym (scan_on l.prev l.body s l.at h (sym w.1.ensures ∙ w.2.left)) ∙ l.invariant.1)
-          (⊎_elim
-          (λ w.
-          ap (λ (n : ℕ). scan b n (l.at + 1) (drop (l.at + 1) s)) (w.5 ∙ opened_no l.prev l.body b l.at (sym w.3.ensures ∙ w.4.left))
-          ∙ sym (scan_on l.prev l.body s l.at h (sym w.1.ensures ∙ w.2.left)) ∙ l.invariant.1)
-          (λ w.
-          ap (λ (n : ℕ). scan b n (l.at + 1) (drop (l.at + 1) s)) w.1
-          ∙ sym (scan_unmarked l.prev l.body s l.at h (sym c.is_mark.ensures ∙ w.0.left)) ∙ l.invariant.1))
-          c.if-is_mark.branch,
+      elim c.if-is_mark.branch [
+        | then-is_mark+else-is_close+then-is_open w ↦
+            ap (λ (n : ℕ). scan b n (l.at + 1) (drop (l.at + 1) s)) (w.body-is ∙ opened_yes l.prev l.body b l.at (sym w.is_open.ensures ∙ w.if-is_open.true))
+            ∙ sym (scan_on l.prev l.body s l.at h (sym w.is_close.ensures ∙ w.if-is_close.false)) ∙ l.invariant.1
+        | then-is_mark+else-is_close+else-is_open w ↦
+            ap (λ (n : ℕ). scan b n (l.at + 1) (drop (l.at + 1) s)) (w.body-is ∙ opened_no l.prev l.body b l.at (sym w.is_open.ensures ∙ w.if-is_open.false))
+            ∙ sym (scan_on l.prev l.body s l.at h (sym w.is_close.ensures ∙ w.if-is_close.false)) ∙ l.invariant.1
+        | else-is_mark w ↦
+            ap (λ (n : ℕ). scan b n (l.at + 1) (drop (l.at + 1) s)) w.body-is
+            ∙ sym (scan_unmarked l.prev l.body s l.at h (sym c.is_mark.ensures ∙ w.if-is_mark.false)) ∙ l.invariant.1
+      ],
     )
 
 pub returns : goal.returns
