@@ -1,6 +1,6 @@
 -- Rows of points: tests that all pass, and sums, one point after the other. Assumes nothing.
 use mathlib.Core.Path.{◌≡◌, refl, sym, ap, ap₂, ◌∙◌}
-use mathlib.Core.Bool.{Bool, true, false, cond, ◌&&◌, and_assoc, and_false}
+use mathlib.Core.Bool.{Bool, true, false, cond, ◌&&◌, and_assoc, and-false}
 use mathlib.Core.List.{List, [], ◌∷◌, ◌++◌}
 use Prim.Native.Nat.{ℕ, zero, suc, ◌+◌, ◌-◌, ◌*◌, ◌≤◌, ◌<◌}
 use native.Mathlib.Nat.{mul-le-mul, le_of_suc-le-suc, not-suc-le-zero}
@@ -20,7 +20,7 @@ use Rattle.charge.proofs.Sizes.{abs_sub, abs_add, abs_times}
 spared : (a b c : Bool) → (c ≡ true → b ≡ true) → a && c ≡ a && b && c
 spared false b c h = refl
 spared true b true h = rw (h refl)
-spared true b false h = sym (and_false b)
+spared true b false h = sym (and-false b)
 
 -- ---- a point
 

@@ -15,11 +15,11 @@ pub loop-i-preserved : goal.loop-i-preserved
 loop-i-preserved c =
     let l = c.loop-i in
     let a = c.args in
-    let t = places_turn a.number a.t2 l.i no_point (omega (arith, c.well_formed)) in
+    let t = places_turn a.number a.points l.i no_point (omega (arith, c.well_formed)) in
     (search rules, rw c.is_good_place-good.ensures (and_assoc l.good _ _ ∙ ap (λ (b : Bool). l.good && b) (sym t) ∙ l.invariant.1))
 
 pub returns : goal.returns
 returns c =
     let l = c.loop-i in
-    let e = places_end c.args.number c.args.t2 l.i (omega (arith, c.well_formed)) in
+    let e = places_end c.args.number c.args.points l.i (omega (arith, c.well_formed)) in
     sym (and-true l.good) ∙ ap (λ (b : Bool). l.good && b) (sym e) ∙ l.invariant.1

@@ -2,13 +2,11 @@
 use mathlib.Core.Path.{◌≡◌}
 use Prim.Native.Nat.{◌-◌, ◌≤◌}
 use lib.ListN.{take}
-use mir.Syntax.{w32}
-use mir.Val.{to_z}
 use Rattle.charge.specs.Charge.{net_of}
 use Rattle.charge.proofs.net.Given as goal
 
 abbrev pub invariant-loop-i : goal.invariant-loop-i
-invariant-loop-i l = (l.i ≤ 16) × (to_z w32 l.sum ≡ net_of (take l.i l.points))
+invariant-loop-i l = (l.i ≤ 16) × (l.sum ≡ net_of (take l.i l.points))
 
 abbrev pub decreases-loop-i : goal.decreases-loop-i
 decreases-loop-i l = 16 - l.i

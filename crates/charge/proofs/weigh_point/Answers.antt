@@ -15,7 +15,7 @@ unfolding weighed_point
 returns-then-is_good_point c =
     let p = c.args.p in
     let e : point_good p ≡ true = sym c.is_good_point.ensures ∙ c.if-is_good_point.true in
-    rw (e, to_z-of_z (record { sfits = c.part.type-inv }), c.part.ensures)
+    rw (e, to_z-of_z (record { sfits = c.part.type_inv }), c.part.ensures)
 
 pub returns-else-is_good_point : goal.returns-else-is_good_point
 unfolding weighed_point
