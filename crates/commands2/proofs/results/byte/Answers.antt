@@ -1,39 +1,30 @@
 -- `commands2::results::byte` meets its contract. Assumes nothing.
-use mathlib.Core.Path.{◌≡◌, ◌∙◌}
+use mathlib.Core.Path.{◌≡◌, ap, sym, ◌∙◌}
+use mathlib.Core.Bool.{true, false}
 use native.Mathlib.Omega.{arith}
-use lib.IntN.{pos, ◌+ℤ◌}
+use lib.IntN.{ℤ, pos, nat_abs, ◌+ℤ◌}
+use lib.Signed.{lt_z}
 use mir.Syntax.{w8, w16}
-use mir.Val.{to_z, of_z}
+use mir.Val.{SFits, to_z, of_z}
 use mir.Facts.{to_z-of_z, sfits_widen}
-use borrow.Author.Rules.{rules}
 use Rattle.commands2.specs.Results.{byte_of}
 use Rattle.commands2.proofs.Bytes.{plus_256, plain_byte, byte_below}
 use Rattle.commands2.proofs.results.byte.Goals as goal
 
-bits : (c : tie.Start) → to_z w8 (of_z w8 c.args.r) ≡ c.args.r
-bits c = search rules
+module _ (r : ℤ) (f : SFits w8 r) where
+  bits : to_z w8 (of_z w8 r) ≡ r
+  bits = to_z-of_z f
 
-sum : (c : tie.Then1) → to_z w16 (of_z w16 (to_z w8 (of_z w8 c.before.args.r))) +ℤ pos 256 ≡ pos (byte_of c.before.args.r)
-sum c =
-    rw (to_z-of_z (cast-result c), bits c.before) (plus_256 c.before.args.r c.before.ranges.r (rw (bits c.before) at c.if1.true))
+  wide : to_z w16 (of_z w16 (to_z w8 (of_z w8 r))) ≡ r
+  wide = rw bits (to_z-of_z {w = w16} (sfits_widen tt f))
 
-plain : (c : tie.Else1) → to_z w8 (of_z w8 c.before.args.r) ≡ pos (byte_of c.before.args.r)
-plain c = bits c.before ∙ plain_byte c.before.args.r (rw (bits c.before) at c.if1.false)
-
-pub overflow_cast-result : goal.overflow_cast-result
-overflow_cast-result c = rw (bits c) (sfits_widen tt c.ranges.r)
-
-pub overflow_add-result : goal.overflow_add-result
-overflow_add-result c = rw (sum c) (record { sfits = omega (arith, byte_below c.args.r c.ranges.r) })
-
-pub overflow_cast-result-then-r-lt0 : goal.overflow_cast-result-then-r-lt0
-overflow_cast-result-then-r-lt0 c = rw (to_z-of_z (add-result c), sum c) (tt, record { fits = byte_below c.args.r c.ranges.r })
+  summed : lt_z r (pos 0) ≡ true → nat_abs (to_z w16 (of_z w16 (to_z w16 (of_z w16 (to_z w8 (of_z w8 r))) +ℤ pos 256))) ≡ byte_of r
+  summed e = rw (wide, plus_256 r f e) (ap nat_abs (to_z-of_z {w = w16} {z = pos (byte_of r)} (record { sfits = omega (arith, byte_below r f) })))
 
 pub returns-then-r-lt0 : goal.returns-then-r-lt0
-returns-then-r-lt0 c = rw (to_z-of_z (add-result c), sum c)
-
-pub overflow_cast-result-2 : goal.overflow_cast-result-2
-overflow_cast-result-2 c = rw (plain c) (tt, record { fits = byte_below c.args.r c.ranges.r })
+returns-then-r-lt0 c = summed c.args.r c.ranges.r (rw (bits c.args.r c.ranges.r) at c.if-r-lt0.true)
 
 pub returns : goal.returns
-returns c = rw (plain c)
+returns c =
+    let e = rw (bits c.args.r c.ranges.r) at c.if-r-lt0.false in
+    rw (bits c.args.r c.ranges.r) (ap nat_abs (plain_byte c.args.r e))
