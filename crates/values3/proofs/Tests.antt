@@ -1,7 +1,7 @@
 -- Tests of values: all points of a row one after the other, a balanced pulse, and no pulse, whose net charge is zero. Assumes nothing.
 use Prim.Native.Nat.{ℕ, ◌+◌, ◌≤◌, ◌<◌}
 use mathlib.Core.Path.{◌≡◌, refl}
-use mathlib.Core.Bool.{Bool, true, false, cond, ◌&&◌, and-true, and_false}
+use mathlib.Core.Bool.{Bool, true, false, cond, ◌&&◌, and-true, and-false}
 use mathlib.Core.List.{List}
 use native.Mathlib.Numerals.{add-one}
 use lib.Dec.{eqb}
@@ -46,4 +46,4 @@ no_charge p x = by (is_no_pulse p) refl
   where
     by : (t : Bool) → is_no_pulse p ≡ t → x && t && is_zero (charge_of p) ≡ x && t
     by true e = rw (none_balanced p e) (and-true (x && true))
-    by false e = rw (and_false x)
+    by false e = rw (and-false x)
