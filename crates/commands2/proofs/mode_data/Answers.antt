@@ -1,9 +1,7 @@
 -- `commands2::mode_data` meets its contract. Assumes nothing.
 use Prim.Native.Nat.{ℕ}
-use mathlib.Core.Path.{◌≡◌, ap, ◌∙◌}
+use mathlib.Core.Path.{ap, ◌∙◌}
 use mathlib.Core.List.{[], ◌∷◌}
-use mir.Syntax.{w8}
-use mir.Val.{to_z, of_z}
 use mir.Facts.{to_z-of_z}
 use Rattle.commands2.specs.Results.{byte_of}
 use Rattle.commands2.specs.ByValue.{by_value}

@@ -4,10 +4,8 @@ use mathlib.Core.Path.{◌≡◌}
 use mathlib.Core.Bool.{true}
 use Rattle.charge.specs.Charge.{pulse_good}
 use Rattle.charge.proofs.Theorems.{good_pulse_lem, of_paper_lem}
-use Rattle.commands3.specs.declared.Command.{Command}
 use Rattle.commands3.specs.declared.Command.TheVariants.{LlChannelConfig}
 use Rattle.commands3.specs.declared.Message.{Message}
-use Rattle.commands3.specs.Commands.{good_for}
 use Rattle.commands3.specs.Contents.{content_of, writable}
 use Rattle.encode3.specs.Content.{content_by_value}
 use Rattle.encode3.proofs.Writable.{writable_parts, config_parts}
