@@ -1,6 +1,6 @@
 -- `decimal::put` meets its contract. The loop's invariant: the digits left, written from `at` on, make what is wanted, and end behind `to`. Assumes
 -- nothing.
-use Prim.Native.Nat.{◌+◌, ◌-◌, ◌<◌}
+use Prim.Native.Nat.{◌+◌, ◌<◌}
 use mathlib.Core.Path.{◌≡◌}
 use lib.ListN.{length}
 use lib.Seq.{sets}

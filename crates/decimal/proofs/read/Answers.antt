@@ -1,5 +1,4 @@
 -- `decimal::read` meets its contract. The loop's invariant: the rest of the digits makes the whole number. Assumes nothing.
-use Prim.Native.Nat.{◌-◌, ◌≤◌}
 use mathlib.Core.Path.{sym, ◌∙◌}
 use native.Mathlib.Omega.{arith}
 use lib.ListN.{get_or}
@@ -7,20 +6,17 @@ use Rattle.decimal.proofs.Digits.{digit_range}
 use Rattle.decimal.proofs.Reading.{begun, turn, over, read_all, stops, ends}
 use Rattle.decimal.proofs.read.Goals as goal
 
-digit : (c : tie.Then1 invariant-loop decreases-loop) → let b = get_or c.before.before.before.before.before.before.args.s.now c.before.before.before.before.loop.i 0 in (48 ≤ b) × (b ≤ 57)
-digit c = digit_range _ (sym c.before.is_digit.ensures ∙ c.if1.true)
-
 pub loop-i-init : goal.loop-i-init
 loop-i-init c = begun _
 
 pub overflow_sub-value : goal.overflow_sub-value
-overflow_sub-value c = omega (arith, digit c)
+overflow_sub-value c = omega (arith, digit_range (get_or c.args.s.now c.loop-i.i 0) (sym c.is_digit.ensures ∙ c.if-is_digit.true))
 
 pub overflow_cast-value : goal.overflow_cast-value
-overflow_cast-value c = omega (arith, digit c)
+overflow_cast-value c = omega (arith, digit_range (get_or c.args.s.now c.loop-i.i 0) (sym c.is_digit.ensures ∙ c.if-is_digit.true))
 
 pub overflow_add-value : goal.overflow_add-value
-overflow_add-value c = omega (arith, digit c)
+overflow_add-value c = omega (arith, digit_range (get_or c.args.s.now c.loop-i.i 0) (sym c.is_digit.ensures ∙ c.if-is_digit.true))
 
 pub returns-then-value-gt-LARGEST : goal.returns-then-value-gt-LARGEST
 returns-then-value-gt-LARGEST c =
