@@ -1,6 +1,6 @@
 -- Checksum and length as the code tests them: by how many bytes there are. Assumes nothing.
 use mathlib.Core.Path.{◌≡◌, refl, sym}
-use mathlib.Core.Bool.{Bool, true, false, ◌&&◌}
+use mathlib.Core.Bool.{Bool, true, false, ◌&&◌, and-false}
 use mathlib.Core.List.{List}
 use Prim.Native.Nat.{ℕ, ◌-◌, ◌≤◌, ◌<◌}
 use native.Mathlib.Omega.{arith}
@@ -11,14 +11,10 @@ use borrow.Author.Tests.{ltb-true, ltb-false}
 use Rattle.crc.specs.Crc.{crc, crc8}
 use Rattle.packets2.specs.Rehastim2.{check_right, length_right}
 
-and_false : (t : Bool) → t && false ≡ false
-and_false true = refl
-and_false false = refl
-
 module _ (b : List ℕ) where
   pub check_short : length b < 2 → false ≡ check_right b
   unfolding check_right crc
-  check_short h = rw (get_or-eq_default b 0 {n = 1} (omega arith), drop_of_length-le b {i = 4} (omega arith)) (sym (and_false (eqb (get_or b 0 0) 129)))
+  check_short h = rw (get_or-eq_default b 0 {n = 1} (omega arith), drop_of_length-le b {i = 4} (omega arith)) (sym (and-false (eqb (get_or b 0 0) 129)))
 
   pub check_empty : length b < 4 → (eqb (get_or b 0 0) 129 && eqb (get_or b 1 0) 85) ≡ check_right b
   unfolding check_right crc
@@ -30,7 +26,7 @@ module _ (b : List ℕ) where
 
   pub length_short : length b < 4 → false ≡ length_right b
   unfolding length_right
-  length_short h = rw (get_or-eq_default b 0 {n = 3} (omega arith), drop_of_length-le b {i = 4} (omega arith)) (sym (and_false (eqb (get_or b 2 0) 129)))
+  length_short h = rw (get_or-eq_default b 0 {n = 3} (omega arith), drop_of_length-le b {i = 4} (omega arith)) (sym (and-false (eqb (get_or b 2 0) 129)))
 
   pub length_whole : (eqb (get_or b 2 0) 129 && eqb (get_or b 3 0) (bit_xor (length b - 4) 85)) ≡ length_right b
   unfolding length_right

@@ -9,9 +9,6 @@ use lib.Dec.{eqb}
 use lib.Bits.{bit_xor}
 use Rattle.crc.specs.Crc.{crc}
 use Rattle.reader2.proofs.Header.{check_short, check_empty, check_whole}
-use Rattle.reader2.proofs.check_right.Reads as reads
-use Rattle.reader2.proofs.check_right.Lts as lts
-use Rattle.crc.proofs.check8.Reads as check8-reads
 use Rattle.reader2.proofs.check_right.Goals as goal
 
 pub returns-then-b-lt2 : goal.returns-then-b-lt2

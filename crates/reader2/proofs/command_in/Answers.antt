@@ -1,10 +1,6 @@
 -- `reader2::command_in` meets its contract. Assumes nothing.
 use mathlib.Core.Path.{◌∙◌}
 use Rattle.reader2.proofs.FirstBytes.{by_seven}
-use Rattle.reader2.proofs.command_in.Reads as reads
-use Rattle.reader2.proofs.command_in.Lts as lts
-use Rattle.commands2.proofs.command_of.Reads as command-of-reads
-use Rattle.slices.proofs.byte_at.Reads as byte-at-reads
 use Rattle.reader2.proofs.command_in.Goals as goal
 
 pub returns : goal.returns

@@ -2,8 +2,6 @@
 use Prim.Native.Nat.{◌-◌}
 use native.Mathlib.Omega.{arith}
 use Rattle.reader2.proofs.Header.{length_short, length_whole}
-use Rattle.reader2.proofs.length_right.Reads as reads
-use Rattle.reader2.proofs.length_right.Lts as lts
 use Rattle.reader2.proofs.length_right.Goals as goal
 
 pub returns-then-b-lt4 : goal.returns-then-b-lt4

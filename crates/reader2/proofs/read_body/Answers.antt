@@ -11,12 +11,6 @@ use Rattle.packets2.specs.Rehastim2.{rehastim2}
 use Rattle.reader2.specs.Reader.{as_read}
 use Rattle.reader2.proofs.Header.{length_long}
 use borrow.Author.Rules.{rules}
-use Rattle.reader2.proofs.read_body.Reads as reads
-use Rattle.reader2.proofs.read_body.Lts as lts
-use Rattle.reader2.proofs.check_right.Reads as check-right-reads
-use Rattle.reader2.proofs.length_right.Reads as length-right-reads
-use Rattle.reader2.proofs.read_covered.Reads as read-covered-reads
-use Rattle.reader2.proofs.refuse.Reads as refuse-reads
 use Rattle.reader2.proofs.read_body.Goals as goal
 
 pub slice_bounds-read_covered-count : goal.slice_bounds-read_covered-count

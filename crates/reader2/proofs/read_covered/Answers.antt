@@ -12,19 +12,13 @@ use Rattle.packets.proofs.Tests.{wrong_pairs}
 use Rattle.packets2.specs.Rehastim2.{rehastim2}
 use Rattle.reader2.specs.Reader.{as_read}
 use Rattle.reader2.proofs.Covered.{taken_both, not_passed}
-use Rattle.reader2.proofs.read_covered.Reads as reads
-use Rattle.reader2.proofs.read_covered.Lts as lts
-use Rattle.reader2.proofs.read_plain.Reads as read-plain-reads
-use Rattle.reader2.proofs.refuse.Reads as refuse-reads
-use Rattle.stuffing.proofs.any_special.Reads as any-special-reads
-use Rattle.stuffing.proofs.unstuff.Reads as unstuff-reads
 use Rattle.reader2.proofs.read_covered.Goals as goal
 
 pub slice_bounds-plain-end : goal.slice_bounds-plain-end
-slice_bounds-plain-end c = omega (arith, (taken_both c.unstuff-surveyed.result c.if-surveyed-n.true).1, c.unstuff-surveyed.auto.0)
+slice_bounds-plain-end c = omega (arith, (taken_both c.unstuff-surveyed.result c.if-surveyed-n.true).1)
 
 pub slice_bounds-read_plain-end : goal.slice_bounds-read_plain-end
-slice_bounds-read_plain-end c = sym (length-take-le _ _ (omega (arith, (taken_both c.unstuff-surveyed.result c.if-surveyed-n.true).1, c.unstuff-surveyed.auto.0)))
+slice_bounds-read_plain-end c = sym (length-take-le _ _ (omega (arith, (taken_both c.unstuff-surveyed.result c.if-surveyed-n.true).1)))
 
 pub returns-then-surveyed-n : goal.returns-then-surveyed-n
 returns-then-surveyed-n c =

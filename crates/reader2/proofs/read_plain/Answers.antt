@@ -5,13 +5,6 @@ use Rattle.packets2.specs.Rehastim2.{rehastim2}
 use Rattle.packets2.proofs.Lawful.{size_range}
 use Rattle.reader2.specs.Reader.{as_read}
 use Rattle.reader2.proofs.Covered.{right_asked}
-use Rattle.reader2.proofs.read_plain.Reads as reads
-use Rattle.reader2.proofs.read_plain.Lts as lts
-use Rattle.commands2.proofs.right.Reads as right-reads
-use Rattle.reader2.proofs.command_in.Reads as command-in-reads
-use Rattle.reader2.proofs.read_data.Reads as read-data-reads
-use Rattle.reader2.proofs.refuse.Reads as refuse-reads
-use Rattle.reader2.proofs.size_good.Reads as size-good-reads
 use Rattle.reader2.proofs.read_plain.Goals as goal
 
 pub overflow_sub-n : goal.overflow_sub-n
