@@ -13,21 +13,7 @@ use Rattle.stuffing.specs.Stuffing.{stuffed, stuffed_byte}
 use Rattle.stuffing.proofs.Laws.{stuffed_special, stuffed_plain, size_le, turn_length, end, stuffed_nil, stuffed_cons}
 use Rattle.packets.proofs.Checksum.{step_special, step_plain, check_turn, check_end}
 use Rattle.writer2.proofs.sum_stuffed.Goals as goal
-
-pub overflow_cast-check : goal.overflow_cast-check
-overflow_cast-check c = let x = xor_lt 8 c.loop-i.check 129 c.loop-i.invariant.1 (omega arith) in record { fits = omega (arith, x) }
-
-pub bounds-table-check : goal.bounds-table-check
-bounds-table-check c = xor_lt 8 c.loop-i.check 129 c.loop-i.invariant.1 (omega arith)
-
-pub overflow_add-size : goal.overflow_add-size
-overflow_add-size c = record { fits = omega (arith, c.loop-i.invariant.3, c.loop-i.invariant.0, c.requires) }
-
-pub overflow_cast-check-in-loop-i : goal.overflow_cast-check-in-loop-i
-overflow_cast-check-in-loop-i c = let x = xor_lt 8 c.if-is_special.check c.if-is_special.b (search rules) (search rules) in record { fits = omega (arith, x) }
-
-pub bounds-table-check-in-loop-i : goal.bounds-table-check-in-loop-i
-bounds-table-check-in-loop-i c = xor_lt 8 c.if-is_special.check c.if-is_special.b (search rules) (search rules)
+use Rattle.writer2.proofs.sum_stuffed.Goals.{then-is_special, else-is_special}
 
 pub loop-i-preserved : goal.loop-i-preserved
 loop-i-preserved c =
@@ -38,17 +24,19 @@ loop-i-preserved c =
     let j = c.if-is_special in
     let b = get_or s l.i 0 in
     let stepped : (byte_step 7 7 j.check j.b ≡ crc 7 7 l.check (stuffed_byte b)) × (j.size + 1 ≡ l.size + length (stuffed_byte b)) =
-    ⊎_elim
-    (λ w.
-    let e = sym special.ensures ∙ w.0.taken in
-    (ap₂ (byte_step 7 7) (w.1 ∙ looked_up8 7 _ t.ensures l.check 129 (omega arith) l.invariant.1 (omega arith)) w.3 ∙ step_special 7 7 l.check b e, omega (arith, w.2, ap length (stuffed_special b e))))
-    (λ w.
-    let e = sym special.ensures ∙ w.0.left in
-    (ap₂ (byte_step 7 7) w.1 w.3 ∙ step_plain 7 7 l.check b e, omega (arith, w.2, ap length (stuffed_plain b e)))) j.branch in
+    elim j.branch [
+      then-is_special w ↦ let e = sym special.ensures ∙ w.if-is_special.true in
+          (
+            ap₂ (byte_step 7 7) (w.check-is ∙ looked_up8 7 _ t.ensures l.check 129 (omega arith) l.invariant.1 (omega arith)) w.b-is ∙ step_special 7 7 l.check b e,
+            omega (arith, w.size-is, ap length (stuffed_special b e)),
+          )
+      | else-is_special w ↦ let e = sym special.ensures ∙ w.if-is_special.false in
+          (ap₂ (byte_step 7 7) w.check-is w.b-is ∙ step_plain 7 7 l.check b e, omega (arith, w.size-is, ap length (stuffed_plain b e)))
+    ] in
     let e = looked_up8 7 _ t.ensures j.check j.b (omega arith) (search rules) (search rules) in
     let n = turn_length stuffed_byte stuffed stuffed_nil stuffed_cons s l.i (search rules) in (
       search rules,
-      subst (λ (n : ℕ). n < 256) (sym e) (byte_lt8 7 j.check j.b (omega arith) (search rules) (search rules)),
+      rw e (byte_lt8 7 j.check j.b (omega arith) (search rules) (search rules)),
       ap (λ (n : ℕ). crc 7 7 n (stuffed (drop (l.i + 1) s))) (e ∙ stepped.0) ∙ sym (check_turn 7 7 l.check s l.i (search rules)) ∙ l.invariant.2,
       omega (arith, stepped.1, size_le b _ refl, l.invariant.3),
       omega (arith, stepped.1, n, l.invariant.4),

@@ -7,10 +7,6 @@ use Rattle.framing.specs.Packet.{size_written, written_to}
 use Rattle.writer2.specs.declared.Told.{Told}
 use Rattle.packets2.specs.Rehastim2.{header_of}
 use Rattle.writer2.proofs.Written.{length_fits}
-use Rattle.writer2.proofs.write_content.Reads as reads
-use Rattle.writer2.proofs.write_content.Lts as lts
-use Rattle.framing.proofs.write.Reads as write-reads
-use Rattle.writer2.proofs.sum_stuffed.Reads as sum-stuffed-reads
 use Rattle.writer2.proofs.write_content.Goals as goal
 
 pub overflow_cast-header : goal.overflow_cast-header

@@ -8,12 +8,6 @@ use Rattle.framing.specs.Packet.{size_written, written_to}
 use Rattle.commands2.proofs.DataBytes.{length_data_le}
 use Rattle.packets2.specs.Rehastim2.{header_of}
 use Rattle.writer2.proofs.Written.{data_size, content_is, content_within}
-use Rattle.writer2.proofs.write_good.Reads as reads
-use Rattle.writer2.proofs.write_good.Lts as lts
-use Rattle.commands2.proofs.data_of.Reads as data-of-reads
-use Rattle.commands2.proofs.number.Reads as number-reads
-use Rattle.writer2.proofs.content_of.Reads as content-of-reads
-use Rattle.writer2.proofs.write_content.Reads as write-content-reads
 use Rattle.writer2.proofs.write_good.Goals as goal
 
 pub overflow_add-n : goal.overflow_add-n

@@ -8,10 +8,6 @@ use Rattle.commands2.specs.Commands.{good}
 use Rattle.packets2.specs.Rehastim2.{header_of}
 use Rattle.writer2.specs.Writer.{content_of}
 use Rattle.writer2.proofs.Written.{packet_small}
-use Rattle.writer2.proofs.write_packet.Reads as reads
-use Rattle.writer2.proofs.write_packet.Lts as lts
-use Rattle.commands2.proofs.good.Reads as good-reads
-use Rattle.writer2.proofs.write_good.Reads as write-good-reads
 use Rattle.writer2.proofs.write_packet.Goals as goal
 
 pub returns-then-used-eq0 : goal.returns-then-used-eq0
@@ -20,7 +16,7 @@ returns-then-used-eq0 c =
     let a = c.args in
     let content = content_of a.packet a.c in
     let w = c.write_good-used.ensures in
-    let t = too_short (good a.c) (header_of content) content a.out.now (sym c.good2.ensures ∙ c.if-good.true) (sym w.0 ∙ c.if-used-eq0.true) in
+    let t = too_short (good a.c) (header_of content) content a.out.now (sym c.good.ensures ∙ c.if-good.true) (sym w.0 ∙ c.if-used-eq0.true) in
     (t.0, w.1 ∙ t.1)
 
 pub overflow_cast-result : goal.overflow_cast-result
@@ -35,7 +31,7 @@ returns-then-good c =
     let a = c.args in
     let content = content_of a.packet a.c in
     let w = c.write_good-used.ensures in
-    let t = fits (good a.c) (header_of content) content a.out.now (sym c.good2.ensures ∙ c.if-good.true) (λ z. c.if-used-eq0.false (w.0 ∙ z)) in
+    let t = fits (good a.c) (header_of content) content a.out.now (sym c.good.ensures ∙ c.if-good.true) (λ z. c.if-used-eq0.false (w.0 ∙ z)) in
     (ap (λ (n : ℕ). record { answer = 0; used = n }) w.0 ∙ t.0, w.1 ∙ t.1)
 
 pub returns : goal.returns
@@ -43,4 +39,4 @@ unfolding framed
 returns c =
     let a = c.args in
     let content = content_of a.packet a.c in
-    not_good (good a.c) (header_of content) content a.out.now (sym c.good2.ensures ∙ c.if-good.false)
+    not_good (good a.c) (header_of content) content a.out.now (sym c.good.ensures ∙ c.if-good.false)
