@@ -48,10 +48,11 @@ unfolding judged taken state_of
 whole_settled b s w = rw (whole_decided b.profile b.clock b.core s w) (settled_as b _ _ _)
 
 -- an Update's first byte alone: 10 when tripped, else 6
-pub alone_answer : {A B : Type 0} (k answer : ℕ) → A ⊎ B → (A → (2 ≤ k) × (answer ≡ 10)) → (B → (k < 2) × (answer ≡ 6))
-    → answer ≡ cond (byState k false false true) 10 6
-alone_answer k answer (inl a) f g = rw (sym (tripped_is k) ∙ le-leb 2 k (f a).0) (f a).1
-alone_answer k answer (inr b) f g = rw (sym (tripped_is k) ∙ lt-leb 2 k (g b).0) (g b).1
+pub tripped_answer : (k answer : ℕ) → 2 ≤ k → answer ≡ 10 → answer ≡ cond (byState k false false true) 10 6
+tripped_answer k answer t e = rw (sym (tripped_is k) ∙ le-leb 2 k t) e
+
+pub untripped_answer : (k answer : ℕ) → k < 2 → answer ≡ 6 → answer ≡ cond (byState k false false true) 10 6
+untripped_answer k answer t e = rw (sym (tripped_is k) ∙ lt-leb 2 k t) e
 
 -- 1: the byte is kept
 pub kept_as : (b : Box) (q : Partial) → unfinished b (frame_of q) ≡ carried b (taken b.profile (state_of b) (growing q))

@@ -153,10 +153,11 @@ from {g = g} {bytes = bytes} f [] w =
 from f (readout out buf at ∷ ts) w =
     let h = from f ts w.1 in
     record { said = h.said; none = (read_taken f buf at w.0 out, h.none); ring = h.ring; bytes = h.bytes; grown = h.grown; left = h.left }
-from {p} {s = s} {xs = xs} f (call c buf at ∷ ts) w =
+from {p = p} {capacity = capacity} {g = g} {s = s} {bytes = bytes} {xs = xs} f (call c buf at ∷ ts) w =
     let x : Result = step p s c in
+    let a : Filed = filed at g buf x.records in
     let e = gives f buf at w.0 c in
-    let h = from (grows f buf at w.0 c) ts (rw (then f buf at w.0 c) at w.1) in
+    let h = from {g = a.ring} {s = x.state} {bytes = part a.buf at} {xs = xs ++ x.records} (grows f buf at w.0 c) ts (rw (then f buf at w.0 c) at w.1) in
     record {
       said = rw e (ap₂ (λ (o : Spoken) (os : List Spoken). o ∷ os) (says f buf at w.0 c) h.said);
       none = (ap (λ (r : Answered). within 12 r.called.said.answer 14) e ∙ never (way p s c), rw e h.none);

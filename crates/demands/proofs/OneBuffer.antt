@@ -1,7 +1,7 @@
 -- Calls with one buffer are a proper history. Assumes nothing.
 use Prim.Native.Nat.{ℕ}
 use mathlib.Core.Path.{◌≡◌, refl, ap, subst⁻¹}
-use mathlib.Core.List.{List, [], ◌∷◌}
+use mathlib.Core.List.{List, [], ◌∷◌, ◌++◌}
 use Rattle.trace.specs.declared.Part.{Part}
 use Rattle.trace.specs.declared.Ring.{Ring}
 use Rattle.trace.specs.declared.Record.{Record}
@@ -10,9 +10,10 @@ use Rattle.trace.specs.Proper.{Lent}
 use Rattle.trace.proofs.Places.{part_good}
 use Rattle.model.specs.declared.Profile.{Profile}
 use Rattle.model.specs.State.{State}
+use Rattle.model.specs.Arrival.{Result}
 use Rattle.model.specs.Machine.{step}
 use Rattle.record.specs.Box.{box_of}
-use Rattle.calls.specs.Filed.{Answered}
+use Rattle.calls.specs.Filed.{Filed, filed, Answered}
 use Rattle.calls.specs.Calls.{step_filed}
 use Rattle.demands.specs.History.{Kept, next, last, LentTo, Proper, Request, Request.act, Request.show, requests, acts}
 use Rattle.demands.specs.OneBuffer.{Bench, onward, bench_after, turns_of, bench_of, AnyHistory}
@@ -32,10 +33,12 @@ stays_proper : {p : Profile} {capacity : ℕ} (at : Part) {g : Ring} {s : State}
 unfolding Proper last turns_of onward bench_after next step_filed box_of
 stays_proper at buf [] f l = (tt, l)
 stays_proper at buf (show out ∷ rs) f l = let w = stays_proper at buf rs f l in ((l, w.0), w.1)
-stays_proper {p} at {g} {s} buf (act c ∷ rs) f l =
-    let r = filed_ready at g buf (step p s c).records (ready f buf at l) in
+stays_proper {p = p} {capacity = capacity} at {g = g} {s = s} buf {xs = xs} (act c ∷ rs) f l =
+    let x : Result = step p s c in
+    let a : Filed = filed at g buf x.records in
+    let r = filed_ready at g buf x.records (ready f buf at l) in
     let w = subst⁻¹ (λ (x : Answered). StaysProper at (record { box = x.called.next; buf = x.buf }) rs) (gives f buf at l c)
-    (stays_proper at _ rs (grows f buf at l c) (part_good _ at _ (ready_placed _ at _ r), refl)) in
+    (stays_proper at {g = a.ring} {s = x.state} a.buf {xs = xs ++ x.records} rs (grows f buf at l c) (part_good _ at _ (ready_placed _ at _ r), refl)) in
     ((l, w.0), w.1)
 
 pub same_requests : (at : Part) (k : Bench) (rs : List Request) → requests (turns_of at k rs) ≡ rs

@@ -65,7 +65,7 @@ module _ (p q : Profile) (l : NowhereLooser q p) where
   related : {s t : State} → Related s t → (cs : List Call) → Related (after p s cs) (after q t cs)
   unfolding after
   related r [] = r
-  related r (c ∷ cs) = related (next (met p q l r c)) cs
+  related {s = s} {t = t} r (c ∷ cs) = related {s = (step p s c).state} {t = (step q t c).state} (next (met p q l r c)) cs
 
   pub beside : (cs : List Call) (c : Call)
       → Beside q cs c (documented (outcome (step p (after p fresh cs) c))) (documented (outcome (step q (after q fresh cs) c)))

@@ -60,7 +60,7 @@ zero_12 buf at c = rw zero_not_good
 zero_stays : (h : Kept) (ts : List Turn) → h.box ≡ zero_box → (last h ts).box ≡ zero_box
 unfolding last next
 zero_stays h [] e = e
-zero_stays h (call c buf at ∷ ts) e = zero_stays _ ts (rw e (ap (λ (r : Answered). r.called.next) (zero_12 buf at c)))
+zero_stays h (call c buf at ∷ ts) e = zero_stays (next h (call c buf at)) ts (rw e (ap (λ (r : Answered). r.called.next) (zero_12 buf at c)))
 zero_stays h (readout out buf at ∷ ts) e = zero_stays h ts e
 
 module _ {p : Profile} {capacity : ℕ} {rs : List Request} (v : Used p capacity rs) (e : eqb (make_answer p capacity) 0 ≡ false) where

@@ -1,14 +1,20 @@
-use mathlib.Core.Path.{◌∙◌}
+use mathlib.Core.Bool.{true, false, cond}
+use mathlib.Core.Path.{◌≡◌, ◌∙◌}
 use mathlib.Core.List.{[]}
+use Rattle.model.specs.State.{byState}
 use Rattle.model.specs.Arrival.{taken}
 use Rattle.record.specs.Box.{state_of}
-use Rattle.arrival.proofs.Arrivals.{settled_as, alone_answer}
+use Rattle.arrival.proofs.Arrivals.{settled_as, tripped_answer, untripped_answer}
 use Rattle.arrival.proofs.alone.Goals as goal
+use Rattle.arrival.proofs.alone.Goals.{then-b-ge-TRIPPED, else-b-ge-TRIPPED}
 
 pub returns : goal.returns
 unfolding taken state_of
 returns c =
     let x = c.args.b in
     let told = c.if-b-ge-TRIPPED in
-    let answer = alone_answer x.core.state told.answer told.branch (λ w. (w.0.taken, w.1)) (λ w. (w.0.left, w.1)) in
+    let answer : told.answer ≡ cond (byState x.core.state false false true) 10 6 = elim told.branch [
+      then-b-ge-TRIPPED w ↦ tripped_answer x.core.state told.answer w.if-b-ge-TRIPPED.true w.answer-is
+    | else-b-ge-TRIPPED w ↦ untripped_answer x.core.state told.answer w.if-b-ge-TRIPPED.false w.answer-is
+    ] in
     c.settle.ensures ∙ rw (c.tell.ensures, answer) (settled_as x 1 _ (record { core = x.core; records = [] }))

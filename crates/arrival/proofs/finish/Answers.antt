@@ -6,14 +6,15 @@ use borrow.Author.Rules.{rules}
 use Rattle.arrival.proofs.Arrivals.{whole_settled}
 use Rattle.arrival.proofs.finish.Goals as goal
 
-sized : (c : tie.Start) → length c.args.q.bytes ≡ 25
-sized c = search rules
-
 pub slice_bounds-bytes-end : goal.slice_bounds-bytes-end
-slice_bounds-bytes-end c = omega (arith, sized s, c.requires.0)
+slice_bounds-bytes-end c =
+    let sized : length c.args.q.bytes ≡ 25 = search rules in
+    omega (arith, sized, c.requires.0)
 
 pub slice_bounds-decide-end : goal.slice_bounds-decide-end
-slice_bounds-decide-end c = sym (length-take-le c.args.q.len c.args.q.bytes (omega (arith, sized s, c.requires.0)))
+slice_bounds-decide-end c =
+    let sized : length c.args.q.bytes ≡ 25 = search rules in
+    sym (length-take-le c.args.q.len c.args.q.bytes (omega (arith, sized, c.requires.0)))
 
 pub returns : goal.returns
 returns c =

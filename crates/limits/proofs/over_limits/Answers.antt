@@ -13,7 +13,7 @@ pub loop-i-preserved : goal.loop-i-preserved
 loop-i-preserved c =
     let l = c.loop-i in
     let a = c.args in
-    (search rules, rw (some_turn l.i (λ k. over_at a.p k (get_or a.t2 k no_setting)), l.invariant.1, c.over_at-over.ensures))
+    (search rules, rw (some_turn l.i (λ k. over_at a.p k (get_or a.settings k no_setting)), l.invariant.1, c.over_at-over.ensures))
 
 pub returns : goal.returns
 unfolding over_limits

@@ -4,10 +4,8 @@ use borrow.Author.Rules.{rules}
 use Rattle.record.proofs.Joins.{box_joined}
 use Rattle.record.proofs.good_box.Goals as goal
 
-clock-fits : (c : tie.Start) → c.args.b.clock ≤ 4294967295
-clock-fits c = search rules
-
 pub returns : goal.returns
 returns c =
+    let clock-fits : c.args.b.clock ≤ 4294967295 = search rules in
     rw (c.good_partial.ensures, c.good_core.ensures, c.good_ring.ensures, c.good_profile.ensures)
-    (sym (box_joined c.args.b (clock-fits start)))
+    (sym (box_joined c.args.b clock-fits))

@@ -13,7 +13,7 @@ pub loop-i-preserved : goal.loop-i-preserved
 loop-i-preserved c =
     let l = c.loop-i in
     let a = c.args in
-    (search rules, rw (all_turn l.i (λ k. good_at a.stim k (get_or a.t2 k no_setting)), l.invariant.1, c.good_at-good.ensures))
+    (search rules, rw (all_turn l.i (λ k. good_at a.stim k (get_or a.settings k no_setting)), l.invariant.1, c.good_at-good.ensures))
 
 pub returns : goal.returns
 returns c =

@@ -12,7 +12,7 @@ pub loop-i-preserved : goal.loop-i-preserved
 loop-i-preserved c =
     let l = c.loop-i in
     let a = c.args in
-    (search rules, rw (all_turn l.i (λ k. is_zero (get_or a.t1 k no_setting)), l.invariant.1, c.is_zero-zero.ensures))
+    (search rules, rw (all_turn l.i (λ k. is_zero (get_or a.settings k no_setting)), l.invariant.1, c.is_zero-zero.ensures))
 
 pub returns : goal.returns
 returns c =

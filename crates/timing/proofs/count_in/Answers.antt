@@ -1,6 +1,5 @@
 -- The count so far is that of the channels passed.
 use Prim.Native.Nat.{◌-◌}
-use mathlib.Core.Logic.{⊎_elim}
 use mathlib.Core.Bool.{true, false}
 use mathlib.Core.Path.{◌≡◌, sym, ◌∙◌}
 use native.Mathlib.Omega.{arith}
@@ -8,6 +7,7 @@ use borrow.Author.Rules.{rules}
 use Rattle.model.specs.Channels.{many}
 use Rattle.model.proofs.Turns.{many_turn}
 use Rattle.timing.proofs.count_in.Goals as goal
+use Rattle.timing.proofs.count_in.Goals.{then-listed, else-listed}
 
 pub loop-i-init : goal.loop-i-init
 unfolding many
@@ -18,7 +18,10 @@ loop-i-preserved c =
     let a = c.args in
     let turn = many_turn c.loop-i.i a.set a.first in
     let here = c.listed.ensures in
-    ⊎_elim (λ w. omega (arith, turn true (sym w.0.taken ∙ here))) (λ w. omega (arith, turn false (sym w.0.left ∙ here))) c.if-listed.branch
+    elim c.if-listed.branch [
+      then-listed w ↦ omega (arith, turn true (sym w.if-listed.true ∙ here))
+    | else-listed w ↦ omega (arith, turn false (sym w.if-listed.false ∙ here))
+    ]
 
 pub returns : goal.returns
 returns c =

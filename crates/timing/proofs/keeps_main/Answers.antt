@@ -5,14 +5,18 @@ use borrow.Author.Rules.{rules}
 use Rattle.model.specs.Timing.{keeps_main}
 use Rattle.timing.proofs.keeps_main.Goals as goal
 
-product : (c : tie.Start) {t : ℕ} → t ≤ 1290 → (c.args.mode + 1) * t ≤ 330240
-product c h = let m : c.args.mode + 1 ≤ 256 = search rules in mul-le-mul m h
+product : {m t : ℕ} → m ≤ 255 → t ≤ 1290 → (m + 1) * t ≤ 330240
+product {m} h k = let n : m + 1 ≤ 256 = omega arith in mul-le-mul n k
 
 pub overflow_mul-result : goal.overflow_mul-result
-overflow_mul-result c = omega (arith, product c c.group_period.ensures.1)
+overflow_mul-result c =
+    let m : c.args.mode ≤ 255 = search rules in
+    omega (arith, product m c.group_period.ensures.1)
 
 pub overflow_add-result-2 : goal.overflow_add-result-2
-overflow_add-result-2 c = omega (arith, product c c.group_period.ensures.1)
+overflow_add-result-2 c =
+    let m : c.args.mode ≤ 255 = search rules in
+    omega (arith, product m c.group_period.ensures.1)
 
 pub returns : goal.returns
 unfolding keeps_main

@@ -1,6 +1,5 @@
 -- The mode so far is the largest of the channels passed.
 use Prim.Native.Nat.{◌-◌}
-use mathlib.Core.Logic.{⊎_elim}
 use mathlib.Core.Path.{◌≡◌}
 use native.Mathlib.Omega.{arith}
 use lib.ListN.{get_or}
@@ -8,12 +7,13 @@ use Rattle.commands.specs.Commands.{no_setting}
 use Rattle.model.specs.Timing.{largest_mode}
 use Rattle.model.proofs.Turns.{most_turn}
 use Rattle.timing.proofs.largest_mode.Goals as goal
+use Rattle.timing.proofs.largest_mode.Goals.{then-most-x, else-most-x}
 
 pub loop-i-preserved : goal.loop-i-preserved
 loop-i-preserved c =
     let a = c.args in
-    let turn = most_turn c.loop-i.i (λ k. (get_or a.t1 k no_setting).mode) in
-    ⊎_elim (λ w. omega (arith, turn)) (λ w. omega (arith, turn)) c.if-most-x.branch
+    let turn = most_turn c.loop-i.i (λ k. (get_or a.settings k no_setting).mode) in
+    elim c.if-most-x.branch [ then-most-x w ↦ omega (arith, turn) | else-most-x w ↦ omega (arith, turn) ]
 
 pub returns : goal.returns
 unfolding largest_mode
