@@ -11,10 +11,6 @@ use Rattle.commands3.specs.Contents.{two}
 use Rattle.packets3.specs.Rehamove3.{header_of}
 use Rattle.writer3.specs.declared.Told.{Told}
 use Rattle.writer3.proofs.Content.{length_fits}
-use Rattle.writer3.proofs.write_content.Reads as reads
-use Rattle.writer3.proofs.write_content.Lts as lts
-use Rattle.framing.proofs.write.Reads as write-reads
-use Rattle.writer3.proofs.sum_stuffed.Reads as sum-stuffed-reads
 use Rattle.writer3.proofs.write_content.Goals as goal
 
 small : (content : List ℕ) (t : Told) → t ≡ record { check = crc16 (stuffed content); size = length (stuffed content) } → length content ≤ 67 → t.size ≤ 134

@@ -11,10 +11,6 @@ use Rattle.packets.proofs.Written.{not_good, too_short, fits, size_small}
 use Rattle.commands3.specs.Contents.{content_of, writable}
 use Rattle.packets3.specs.Rehamove3.{header_of}
 use Rattle.writer3.proofs.Content.{packet_small, good_is, good, short, within, whole}
-use Rattle.writer3.proofs.write_packet.Reads as reads
-use Rattle.writer3.proofs.write_packet.Lts as lts
-use Rattle.encode3.proofs.encode.Reads as encode-reads
-use Rattle.writer3.proofs.write_content.Reads as write-content-reads
 use Rattle.writer3.proofs.write_packet.Goals as goal
 
 -- what was written of the front is what is written of the content
