@@ -7,10 +7,6 @@ use lib.Seq.{take_all}
 use Rattle.crc.specs.Crc.{crc16}
 use Rattle.packets3.specs.Rehamove3.{says, check_right}
 use Rattle.packets3.proofs.Lawful.{check_short}
-use Rattle.reader3.proofs.check_right.Reads as reads
-use Rattle.reader3.proofs.check_right.Lts as lts
-use Rattle.reader3.proofs.is_said.Reads as is-said-reads
-use Rattle.crc.proofs.check16.Reads as check16-reads
 use Rattle.reader3.proofs.check_right.Goals as goal
 
 pub returns-then-b-lt8 : goal.returns-then-b-lt8

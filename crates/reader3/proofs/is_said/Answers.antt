@@ -2,8 +2,6 @@
 use native.Mathlib.Nat.{add-zero}
 use lib.Seq.{get_or-drop}
 use Rattle.packets3.specs.Rehamove3.{says}
-use Rattle.reader3.proofs.is_said.Reads as reads
-use Rattle.reader3.proofs.is_said.Lts as lts
 use Rattle.reader3.proofs.is_said.Goals as goal
 
 pub returns : goal.returns

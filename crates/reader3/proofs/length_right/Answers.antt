@@ -2,9 +2,6 @@
 use mathlib.Core.Path.{◌∙◌}
 use native.Mathlib.Omega.{arith}
 use Rattle.packets3.proofs.Lawful.{length_over, length_within}
-use Rattle.reader3.proofs.length_right.Reads as reads
-use Rattle.reader3.proofs.length_right.Lts as lts
-use Rattle.reader3.proofs.is_said.Reads as is-said-reads
 use Rattle.reader3.proofs.length_right.Goals as goal
 
 pub returns-then-n-gt-LONGEST : goal.returns-then-n-gt-LONGEST

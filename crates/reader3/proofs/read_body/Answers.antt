@@ -8,25 +8,19 @@ use lib.Seq.{take_all}
 use Rattle.packets.specs.Reader.{covered_answer, answered, put}
 use Rattle.packets.proofs.Tests.{wrong_check, wrong_length, by_covered}
 use Rattle.packets3.specs.Rehamove3.{rehamove3}
-use Rattle.packets3.proofs.Lawful.{length_most}
+use Rattle.packets3.proofs.Lawful.{check_long, length_most}
 use Rattle.reader3.specs.Reader.{as_read}
 use borrow.Author.Rules.{rules}
-use Rattle.reader3.proofs.read_body.Reads as reads
-use Rattle.reader3.proofs.read_body.Lts as lts
-use Rattle.reader3.proofs.check_right.Reads as check-right-reads
-use Rattle.reader3.proofs.length_right.Reads as length-right-reads
-use Rattle.reader3.proofs.read_covered.Reads as read-covered-reads
-use Rattle.reader3.proofs.refuse.Reads as refuse-reads
 use Rattle.reader3.proofs.read_body.Goals as goal
 
 pub length_right-requires : goal.length_right-requires
-length_right-requires c = long c.args.b.now (sym c.check_right.ensures ∙ c.if-check_right.true)
+length_right-requires c = check_long c.args.b.now (sym c.check_right.ensures ∙ c.if-check_right.true)
 
 pub slice_bounds-read_covered-count : goal.slice_bounds-read_covered-count
-slice_bounds-read_covered-count c = long c.args.b.now (sym c.check_right.ensures ∙ c.if-check_right.true)
+slice_bounds-read_covered-count c = check_long c.args.b.now (sym c.check_right.ensures ∙ c.if-check_right.true)
 
 pub slice_bounds-read_covered-start : goal.slice_bounds-read_covered-start
-slice_bounds-read_covered-start c = let h = long c.args.b.now (sym c.check_right.ensures ∙ c.if-check_right.true) in search rules
+slice_bounds-read_covered-start c = let h = check_long c.args.b.now (sym c.check_right.ensures ∙ c.if-check_right.true) in search rules
 
 pub read_covered-requires : goal.read_covered-requires
 read_covered-requires c =

@@ -14,12 +14,6 @@ use Rattle.packets.specs.Reader.{covered_answer, answered, put}
 use Rattle.packets.proofs.Tests.{wrong_pairs}
 use Rattle.packets3.specs.Rehamove3.{rehamove3}
 use Rattle.reader3.specs.Reader.{as_read}
-use Rattle.reader3.proofs.read_covered.Reads as reads
-use Rattle.reader3.proofs.read_covered.Lts as lts
-use Rattle.reader3.proofs.read_plain.Reads as read-plain-reads
-use Rattle.reader3.proofs.refuse.Reads as refuse-reads
-use Rattle.stuffing.proofs.any_special.Reads as any-special-reads
-use Rattle.stuffing.proofs.unstuff.Reads as unstuff-reads
 use Rattle.reader3.proofs.read_covered.Goals as goal
 
 -- what the covered bytes stand for has room
@@ -28,11 +22,11 @@ size_most c s e h = omega (arith, ap (λ (s : Surveyed). s.size) e, unstuffed_le
 
 pub slice_bounds-plain-end : goal.slice_bounds-plain-end
 slice_bounds-plain-end c =
-    omega (arith, size_most c.args.c.now _ c.unstuff-surveyed.ensures.0 c.requires, c.unstuff-surveyed.auto.0)
+    omega (arith, size_most c.args.c.now _ c.unstuff-surveyed.ensures.0 c.requires)
 
 pub slice_bounds-read_plain-end : goal.slice_bounds-read_plain-end
 slice_bounds-read_plain-end c =
-    sym (length-take-le _ _ (omega (arith, size_most c.args.c.now _ c.unstuff-surveyed.ensures.0 c.requires, c.unstuff-surveyed.auto.0)))
+    sym (length-take-le _ _ (omega (arith, size_most c.args.c.now _ c.unstuff-surveyed.ensures.0 c.requires)))
 
 pub read_plain-requires : goal.read_plain-requires
 read_plain-requires c =

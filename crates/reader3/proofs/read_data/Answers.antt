@@ -20,10 +20,6 @@ use Rattle.decode3.specs.Decoded.{decoded}
 use Rattle.reader3.specs.Reader.{as_read}
 use Rattle.reader3.proofs.Decoding.{Right, decoded_right}
 use borrow.Author.Rules.{rules}
-use Rattle.reader3.proofs.read_data.Reads as reads
-use Rattle.reader3.proofs.read_data.Lts as lts
-use Rattle.reader3.proofs.refuse.Reads as refuse-reads
-use Rattle.slices.proofs.copy.Reads as copy-reads
 use Rattle.reader3.proofs.read_data.Goals as goal
 
 -- what the caller has decoded

@@ -6,11 +6,6 @@ use Rattle.framing.proofs.Resync.{scan_within}
 use Rattle.packets.proofs.Tests.{unfinished, finished}
 use Rattle.packets3.specs.Rehamove3.{rehamove3}
 use Rattle.reader3.specs.Reader.{as_read}
-use Rattle.reader3.proofs.read_packet.Reads as reads
-use Rattle.reader3.proofs.read_packet.Lts as lts
-use Rattle.framing.proofs.find.Reads as find-reads
-use Rattle.reader3.proofs.read_body.Reads as read-body-reads
-use Rattle.reader3.proofs.refuse.Reads as refuse-reads
 use Rattle.reader3.proofs.read_packet.Goals as goal
 
 pub returns-then-used-eq0 : goal.returns-then-used-eq0

@@ -3,11 +3,6 @@ use mathlib.Core.Path.{sym, ap, ◌∙◌}
 use Rattle.decode3.specs.declared.Decoded.{Decoded}
 use Rattle.reader3.specs.Reader.{as_read}
 use Rattle.reader3.proofs.Decoding.{decoded_wrong, wrong_content}
-use Rattle.reader3.proofs.read_plain.Reads as reads
-use Rattle.reader3.proofs.read_plain.Lts as lts
-use Rattle.reader3.proofs.read_data.Reads as read-data-reads
-use Rattle.reader3.proofs.refuse.Reads as refuse-reads
-use Rattle.decode3.proofs.decode.Reads as decode-reads
 use Rattle.reader3.proofs.read_plain.Goals as goal
 
 pub returns : goal.returns
