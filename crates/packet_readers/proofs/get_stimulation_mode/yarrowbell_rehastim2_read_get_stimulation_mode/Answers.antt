@@ -6,9 +6,6 @@ use Rattle.packet_readers.proofs.get_stimulation_mode.yarrowbell_rehastim2_read_
   statement,
 }
 use Rattle.packet_readers.proofs.get_stimulation_mode.yarrowbell_rehastim2_read_get_stimulation_mode.Tie as tie
-use Rattle.packet_readers.proofs.get_stimulation_mode.yarrowbell_rehastim2_read_get_stimulation_mode.Reads as reads
-use Rattle.packet_readers.proofs.get_stimulation_mode.yarrowbell_rehastim2_read_get_stimulation_mode.Lts as lts
-use Rattle.packet_readers.proofs.packet.yarrowbell_rehastim2_read.Reads as yarrowbell-rehastim2-read-reads
 
 pub returns : goal.returns
 returns c = let e = c.yarrowbell_rehastim2_read-p.ensures in (ap as_empty e.0, e.1)

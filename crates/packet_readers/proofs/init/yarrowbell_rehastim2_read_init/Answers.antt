@@ -1,9 +1,6 @@
 -- `packet_readers::init::yarrowbell_rehastim2_read_init` meets its contract. Assumes nothing.
 use mathlib.Core.Path.{ap}
 use Rattle.packet_readers.specs.Reports.{as_version}
-use Rattle.packet_readers.proofs.init.yarrowbell_rehastim2_read_init.Reads as reads
-use Rattle.packet_readers.proofs.init.yarrowbell_rehastim2_read_init.Lts as lts
-use Rattle.packet_readers.proofs.packet.yarrowbell_rehastim2_read.Reads as yarrowbell-rehastim2-read-reads
 use Rattle.packet_readers.proofs.init.yarrowbell_rehastim2_read_init.Goals as goal
 
 pub returns : goal.returns

@@ -6,9 +6,6 @@ use Rattle.packet_readers.proofs.init_channel_list_mode.yarrowbell_rehastim2_rea
   statement,
 }
 use Rattle.packet_readers.proofs.init_channel_list_mode.yarrowbell_rehastim2_read_init_channel_list_mode.Tie as tie
-use Rattle.packet_readers.proofs.init_channel_list_mode.yarrowbell_rehastim2_read_init_channel_list_mode.Reads as reads
-use Rattle.packet_readers.proofs.init_channel_list_mode.yarrowbell_rehastim2_read_init_channel_list_mode.Lts as lts
-use Rattle.packet_readers.proofs.packet.yarrowbell_rehastim2_read.Reads as yarrowbell-rehastim2-read-reads
 
 pub returns : goal.returns
 returns c = let e = c.yarrowbell_rehastim2_read-p.ensures in (ap as_list e.0, e.1)

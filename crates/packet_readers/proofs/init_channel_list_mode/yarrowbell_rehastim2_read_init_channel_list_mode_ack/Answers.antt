@@ -10,10 +10,6 @@ use Rattle.packet_readers.proofs.init_channel_list_mode.yarrowbell_rehastim2_rea
   statement,
 }
 use Rattle.packet_readers.proofs.init_channel_list_mode.yarrowbell_rehastim2_read_init_channel_list_mode_ack.Tie as tie
-use Rattle.packet_readers.proofs.init_channel_list_mode.yarrowbell_rehastim2_read_init_channel_list_mode_ack.Reads as reads
-use Rattle.packet_readers.proofs.init_channel_list_mode.yarrowbell_rehastim2_read_init_channel_list_mode_ack.Lts as lts
-use Rattle.packet_readers.proofs.packet.yarrowbell_rehastim2_read.Reads as yarrowbell-rehastim2-read-reads
-use Rattle.packet_readers.proofs.result.result_for.Reads as result-for-reads
 
 pub returns : goal.returns
 returns c =

@@ -4,10 +4,6 @@ use mir.Val.{SFits}
 use mir.Facts.{to_z-of_z}
 use borrow.Author.Rules.{rules}
 use Rattle.packet_readers.proofs.Assembled.{assembled}
-use Rattle.packet_readers.proofs.packet.report.Reads as reads
-use Rattle.packet_readers.proofs.packet.report.Lts as lts
-use Rattle.commands2.proofs.number.Reads as number-reads
-use Rattle.packet_readers.proofs.packet.values_of.Reads as values-of-reads
 use Rattle.packet_readers.proofs.packet.report.Goals as goal
 
 pub returns : goal.returns

@@ -3,9 +3,6 @@ use mir.Syntax.{w8}
 use mir.Val.{SFits}
 use mir.Facts.{to_z-of_z}
 use borrow.Author.Rules.{rules}
-use Rattle.packet_readers.proofs.packet.values_of.Reads as reads
-use Rattle.packet_readers.proofs.packet.values_of.Lts as lts
-use Rattle.packet_readers.proofs.packet.tell.Reads as tell-reads
 use Rattle.packet_readers.proofs.packet.values_of.Goals as goal
 
 pub returns-in-Init : goal.returns-in-Init

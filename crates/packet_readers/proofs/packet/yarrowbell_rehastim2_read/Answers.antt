@@ -1,10 +1,6 @@
 -- `packet_readers::packet::yarrowbell_rehastim2_read` meets its contract. Assumes nothing.
 use mathlib.Core.Path.{ap, ◌∙◌}
 use Rattle.packet_readers.specs.Reports.{as_packet}
-use Rattle.packet_readers.proofs.packet.yarrowbell_rehastim2_read.Reads as reads
-use Rattle.packet_readers.proofs.packet.yarrowbell_rehastim2_read.Lts as lts
-use Rattle.packet_readers.proofs.packet.report.Reads as report-reads
-use Rattle.reader2.proofs.read_packet.Reads as read-packet-reads
 use Rattle.packet_readers.proofs.packet.yarrowbell_rehastim2_read.Goals as goal
 
 pub returns : goal.returns

@@ -9,8 +9,6 @@ use Rattle.packet_readers.specs.Reports.{result_for}
 use mir.Syntax.{w8}
 use mir.Val.{SFits}
 use mir.Facts.{to_z-of_z}
-use Rattle.packet_readers.proofs.result.result_for.Reads as reads
-use Rattle.packet_readers.proofs.result.result_for.Lts as lts
 use Rattle.packet_readers.proofs.result.result_for.Goals as goal
 
 own : (number : ℕ) (p : ReadPacket) → p.command ≡ number → p.result ≡ result_for number p

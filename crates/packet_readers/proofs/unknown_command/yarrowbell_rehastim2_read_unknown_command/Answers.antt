@@ -6,9 +6,6 @@ use Rattle.packet_readers.proofs.unknown_command.yarrowbell_rehastim2_read_unkno
   statement,
 }
 use Rattle.packet_readers.proofs.unknown_command.yarrowbell_rehastim2_read_unknown_command.Tie as tie
-use Rattle.packet_readers.proofs.unknown_command.yarrowbell_rehastim2_read_unknown_command.Reads as reads
-use Rattle.packet_readers.proofs.unknown_command.yarrowbell_rehastim2_read_unknown_command.Lts as lts
-use Rattle.packet_readers.proofs.packet.yarrowbell_rehastim2_read.Reads as yarrowbell-rehastim2-read-reads
 
 pub returns : goal.returns
 returns c = let e = c.yarrowbell_rehastim2_read-p.ensures in (ap as_echo e.0, e.1)

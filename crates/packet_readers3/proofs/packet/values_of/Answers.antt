@@ -1,7 +1,4 @@
 -- `packet_readers3::packet::values_of` meets its contract: the definition at each command. Assumes nothing.
-use Rattle.packet_readers3.proofs.packet.values_of.Reads as reads
-use Rattle.packet_readers3.proofs.packet.values_of.Lts as lts
-use Rattle.packet_readers3.proofs.packet.tell.Reads as tell-reads
 use Rattle.packet_readers3.proofs.packet.values_of.Goals as goal
 
 pub returns-in-LlInit : goal.returns-in-LlInit

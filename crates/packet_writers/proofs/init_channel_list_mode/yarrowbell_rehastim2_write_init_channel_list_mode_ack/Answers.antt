@@ -8,9 +8,6 @@ use Rattle.packet_writers.proofs.init_channel_list_mode.yarrowbell_rehastim2_wri
   statement,
 }
 use Rattle.packet_writers.proofs.init_channel_list_mode.yarrowbell_rehastim2_write_init_channel_list_mode_ack.Tie as tie
-use Rattle.packet_writers.proofs.init_channel_list_mode.yarrowbell_rehastim2_write_init_channel_list_mode_ack.Reads as reads
-use Rattle.packet_writers.proofs.init_channel_list_mode.yarrowbell_rehastim2_write_init_channel_list_mode_ack.Lts as lts
-use Rattle.writer2.proofs.write_packet.Reads as write-packet-reads
 
 pub returns : goal.returns
 returns c =
