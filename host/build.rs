@@ -13,7 +13,7 @@ const LIBRARIES: &str = include_str!("libraries");
 
 fn main() {
     println!("cargo:rerun-if-env-changed=YARROWBELL_LIBRARY");
-    // `rt ci` clears its target folder, so the archives are linked from copies of our own.
+    // The archives are linked from copies of our own, as they are written anew with each proof.
     let own = PathBuf::from(env::var_os("OUT_DIR").expect("cargo sets OUT_DIR"));
     println!("cargo:rustc-link-search=native={}", own.display());
     let made = match env::var_os("YARROWBELL_LIBRARY") {
@@ -39,13 +39,27 @@ fn proved() -> PathBuf {
     let package = Path::new(&package);
     let top = package.parent().expect("this package lies in the repository");
     let prove = package.join("prove-libraries");
-    for path in [&top.join("crates"), &top.join("crates.txt"), &package.join("libraries"), &prove] {
+    for path in [&top.join("crates.txt"), &package.join("libraries"), &prove] {
         watch(path);
     }
+    watch_sources(&top.join("crates"));
     match Command::new(&prove).status() {
         Ok(status) if status.success() => top.join("target/staticlib"),
         Ok(status) => panic!("`{}` failed: {status}", prove.display()),
         Err(error) => panic!("cannot run `{}`: {error}", prove.display()),
+    }
+}
+
+/// Watches what a proof reads of each crate, and not its folder `out`, where `rt` writes.
+fn watch_sources(crates: &Path) {
+    let folders = fs::read_dir(crates).expect("the repository has a folder of crates");
+    for folder in folders {
+        let folder = folder.expect("the folder of crates can be read").path();
+        for part in ["src", "specs", "proofs"].map(|part| folder.join(part)) {
+            if part.exists() {
+                watch(&part);
+            }
+        }
     }
 }
 

@@ -222,7 +222,7 @@ extern "C" {
     ) -> Wrote;
     pub(crate) fn yarrowbell_rehastim2_write_init_ack(
         packet: u8,
-        result: i8,
+        res: i8,
         out: *mut u8,
         out_length: usize,
     ) -> Wrote;
@@ -244,7 +244,7 @@ extern "C" {
     ) -> Wrote;
     pub(crate) fn yarrowbell_rehastim2_write_get_stimulation_mode_ack(
         packet: u8,
-        result: i8,
+        res: i8,
         mode: u8,
         out: *mut u8,
         out_length: usize,
@@ -262,7 +262,7 @@ extern "C" {
     ) -> Wrote;
     pub(crate) fn yarrowbell_rehastim2_write_init_channel_list_mode_ack(
         packet: u8,
-        result: i8,
+        res: i8,
         out: *mut u8,
         out_length: usize,
     ) -> Wrote;

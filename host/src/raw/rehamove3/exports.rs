@@ -56,7 +56,7 @@ extern "C" {
     ) -> Wrote;
     pub(crate) fn yarrowbell_rehamove3_write_ll_init_ack(
         packet: u8,
-        result: u8,
+        res: u8,
         out: *mut u8,
         out_length: usize,
     ) -> Wrote;
@@ -70,7 +70,7 @@ extern "C" {
     ) -> Wrote;
     pub(crate) fn yarrowbell_rehamove3_write_ll_channel_config_ack(
         packet: u8,
-        result: u8,
+        res: u8,
         electrode: u8,
         out: *mut u8,
         out_length: usize,
@@ -82,7 +82,7 @@ extern "C" {
     ) -> Wrote;
     pub(crate) fn yarrowbell_rehamove3_write_ll_stop_ack(
         packet: u8,
-        result: u8,
+        res: u8,
         out: *mut u8,
         out_length: usize,
     ) -> Wrote;
