@@ -1,5 +1,4 @@
 -- The bytes that are left are zero exactly if all of them are.
-use Prim.Native.Nat.{◌-◌}
 use mathlib.Core.Path.{sym, ◌∙◌}
 use native.Mathlib.Omega.{arith}
 use lib.ListN.{get_or}

@@ -1,5 +1,4 @@
 -- The count so far is that of the channels passed.
-use Prim.Native.Nat.{◌-◌}
 use mathlib.Core.Bool.{true, false}
 use mathlib.Core.Path.{◌≡◌, sym, ◌∙◌}
 use native.Mathlib.Omega.{arith}
@@ -19,8 +18,8 @@ loop-i-preserved c =
     let turn = many_turn c.loop-i.i a.set a.first in
     let here = c.listed.ensures in
     elim c.if-listed.branch [
-      then-listed w ↦ omega (arith, turn true (sym w.if-listed.true ∙ here))
-    | else-listed w ↦ omega (arith, turn false (sym w.if-listed.false ∙ here))
+      | then-listed w ↦ omega (arith, turn true (sym w.if-listed.true ∙ here))
+      | else-listed w ↦ omega (arith, turn false (sym w.if-listed.false ∙ here))
     ]
 
 pub returns : goal.returns
