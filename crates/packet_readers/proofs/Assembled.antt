@@ -5,7 +5,6 @@ use lib.IntN.{ℤ}
 use Rattle.commands2.specs.Commands.{number_of}
 use Rattle.reader2.specs.declared.Read.{Read}
 use Rattle.packet_readers.specs.declared.packet.Values.{Values}
-use Rattle.packet_readers.specs.declared.packet.ReadPacket.{ReadPacket}
 use Rattle.packet_readers.specs.Reports.{values_of, as_packet}
 
 pub assembled : (r : Read) (v : Values) (n : ℕ) (z : ℤ) → v ≡ values_of r.command → n ≡ number_of r.command → z ≡ v.result

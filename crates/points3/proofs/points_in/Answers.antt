@@ -52,8 +52,7 @@ loop-i-preserved c =
     let w = c.word_at-w in
     let p = c.point_of-p in
     let q = c.weigh_point-weighed in
-    let z : to_z w32 (of_z w32 q.result.charge) ≡ q.result.charge = search rules in
-    (
+    let z : to_z w32 (of_z w32 q.result.charge) ≡ q.result.charge = search rules in (
       omega arith,
       rw (add-one l.i) (ap₂ (λ (p : List Point) (q : Point). set p l.i q) l.invariant.1 (point d l.i w.result p.result q.result w.ensures p.ensures q.ensures) ∙ one_more 16 l.i d (omega arith)),
       rw (add-one l.i)

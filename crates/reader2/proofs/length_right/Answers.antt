@@ -1,5 +1,4 @@
 -- `reader2::length_right` meets its contract. Assumes nothing.
-use Prim.Native.Nat.{◌-◌}
 use native.Mathlib.Omega.{arith}
 use Rattle.reader2.proofs.Header.{length_short, length_whole}
 use Rattle.reader2.proofs.length_right.Goals as goal

@@ -1,11 +1,9 @@
 -- `writer2::sum_stuffed` meets its contract. Assumes nothing.
 -- The loop's invariant: the check of the bytes left, from here on, is the check of all; and so with their size.
-use mathlib.Core.Path.{◌≡◌, refl, sym, ap, ap₂, subst, ◌∙◌}
-use mathlib.Core.Logic.{⊎_elim}
-use Prim.Native.Nat.{ℕ, ◌<◌, ◌-◌, ◌+◌}
+use mathlib.Core.Path.{◌≡◌, refl, sym, ap, ap₂, ◌∙◌}
+use Prim.Native.Nat.{ℕ, ◌+◌}
 use native.Mathlib.Omega.{arith}
 use borrow.Author.Rules.{rules}
-use lib.Bits.{xor_lt}
 use lib.ListN.{length, drop, get_or}
 use Rattle.crc.specs.Crc.{crc, byte_step}
 use Rattle.crc.proofs.Laws.{looked_up8, byte_lt8}
@@ -25,11 +23,10 @@ loop-i-preserved c =
     let b = get_or s l.i 0 in
     let stepped : (byte_step 7 7 j.check j.b ≡ crc 7 7 l.check (stuffed_byte b)) × (j.size + 1 ≡ l.size + length (stuffed_byte b)) =
     elim j.branch [
-      then-is_special w ↦ let e = sym special.ensures ∙ w.if-is_special.true in
-          (
-            ap₂ (byte_step 7 7) (w.check-is ∙ looked_up8 7 _ t.ensures l.check 129 (omega arith) l.invariant.1 (omega arith)) w.b-is ∙ step_special 7 7 l.check b e,
-            omega (arith, w.size-is, ap length (stuffed_special b e)),
-          )
+      | then-is_special w ↦ let e = sym special.ensures ∙ w.if-is_special.true in (
+        ap₂ (byte_step 7 7) (w.check-is ∙ looked_up8 7 _ t.ensures l.check 129 (omega arith) l.invariant.1 (omega arith)) w.b-is ∙ step_special 7 7 l.check b e,
+        omega (arith, w.size-is, ap length (stuffed_special b e)),
+      )
       | else-is_special w ↦ let e = sym special.ensures ∙ w.if-is_special.false in
           (ap₂ (byte_step 7 7) w.check-is w.b-is ∙ step_plain 7 7 l.check b e, omega (arith, w.size-is, ap length (stuffed_plain b e)))
     ] in

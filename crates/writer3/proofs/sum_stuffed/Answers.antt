@@ -2,7 +2,7 @@
 -- The loop's invariant: the check of the bytes left, from here on, is the check of all; and so with their size.
 use mathlib.Core.Path.{◌≡◌, refl, sym, ap, ap₂, ◌∙◌}
 use mathlib.Core.List.{List}
-use Prim.Native.Nat.{ℕ, ◌<◌, ◌-◌, ◌+◌, ◌*◌, ◌/◌, ◌%◌}
+use Prim.Native.Nat.{ℕ, ◌<◌, ◌+◌, ◌*◌, ◌/◌, ◌%◌}
 use native.Mathlib.Omega.{arith}
 use borrow.Author.Rules.{rules}
 use lib.Bits.{bit_xor}
@@ -30,11 +30,10 @@ loop-i-preserved c =
     let b = get_or s l.i 0 in
     let stepped : (byte_step 15 4129 j.check j.b ≡ crc 15 4129 l.check (stuffed_byte b)) × (j.size + 1 ≡ l.size + length (stuffed_byte b)) =
     elim j.branch [
-      then-is_special w ↦ let e = sym special.ensures ∙ w.if-is_special.true in
-          (
-            ap₂ (byte_step 15 4129) (w.check-is ∙ stepped_by _ t.ensures l.check 129 l.invariant.1 (omega arith)) w.b-is ∙ step_special 15 4129 l.check b e,
-            omega (arith, w.size-is, ap length (stuffed_special b e)),
-          )
+      | then-is_special w ↦ let e = sym special.ensures ∙ w.if-is_special.true in (
+        ap₂ (byte_step 15 4129) (w.check-is ∙ stepped_by _ t.ensures l.check 129 l.invariant.1 (omega arith)) w.b-is ∙ step_special 15 4129 l.check b e,
+        omega (arith, w.size-is, ap length (stuffed_special b e)),
+      )
       | else-is_special w ↦ let e = sym special.ensures ∙ w.if-is_special.false in
           (ap₂ (byte_step 15 4129) w.check-is w.b-is ∙ step_plain 15 4129 l.check b e, omega (arith, w.size-is, ap length (stuffed_plain b e)))
     ] in
