@@ -14,7 +14,7 @@ returns c =
     let x = c.args.b in
     let told = c.if-b-ge-TRIPPED in
     let answer : told.answer ≡ cond (byState x.core.state false false true) 10 6 = elim told.branch [
-      then-b-ge-TRIPPED w ↦ tripped_answer x.core.state told.answer w.if-b-ge-TRIPPED.true w.answer-is
-    | else-b-ge-TRIPPED w ↦ untripped_answer x.core.state told.answer w.if-b-ge-TRIPPED.false w.answer-is
+      | then-b-ge-TRIPPED w ↦ tripped_answer x.core.state told.answer w.if-b-ge-TRIPPED.true w.answer-is
+      | else-b-ge-TRIPPED w ↦ untripped_answer x.core.state told.answer w.if-b-ge-TRIPPED.false w.answer-is
     ] in
     c.settle.ensures ∙ rw (c.tell.ensures, answer) (settled_as x 1 _ (record { core = x.core; records = [] }))
