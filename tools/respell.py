@@ -5,11 +5,13 @@ usage: tools/respell.py        at the top of the repository
 
 Turned is every name with a small first letter that a file of specs/, or one of proofs/ outside a function's own folder, declares:
 firstHigh and first-low become first_high and first_low. Types, modules, what Rattle's sources name and what Rattle itself names stay.
-Where two names would fall together, OTHERWISE names one of them. Must-fail edits follow, and names in `..` of the pages.
+Where two names would fall together, OTHERWISE names one of them. Must-fail edits follow, and names in `..` of the pages. Names that
+were turned once are not turned again: the script stops.
 """
 
 import os
 import re
+import sys
 
 # A lemma that would have the name of a definition gets _lem; a field that would hide one says more.
 OTHERWISE = {
@@ -21,13 +23,18 @@ OTHERWISE = {
     "some_below": "some_below_lem",
     "by_value": "by_value_lem",
     "goes_on": "goes_on_lem",
+    "by_state": "by_state_lem",
+    "each_below": "each_below_lem",
 }
 LEMMAS = """good-partial good-tests good-pulse of-paper no-error over-limit frame-size over-at over-limits init-number in-stretch all-good
 pulse-in no-list if-running if-resting keeps-modules used-in in-front good-core found-by over-number once-around records-after all-below
-number-of is-zero in-range"""
+number-of is-zero in-range by-ident"""
 OTHERWISE |= {name: name.replace("-", "_") + "_lem" for name in LEMMAS.split()}
 
-DECLARED = re.compile(r"^\s*(?:(?:abbrev|unfoldable|opaque|pub)\s+)*([^\s:(){}.,;]+)\s*:(?!=)(?:\s|$)")
+# Parameters that a reader of specs/ meets.
+PARAMETERS = {"whenIdle", "whenRunning", "whenTripped", "answerTo"}
+
+DECLARED = re.compile(r"^\s*(?:(?:abbrev|unfoldable|opaque|pub)\s+)*([^\s:(){}.,;]+)\s*(?:\{[^{}]*\}\s*)?:(?!=)(?:\s|$)")
 TOKEN = re.compile(r"[^\s(){}\[\],;.\"`:@]+")
 CAMEL = re.compile(r"[a-z0-9][A-Z]")
 
@@ -57,11 +64,17 @@ def snake(name):
     return re.sub(r"(?<=[a-z0-9])(?=[A-Z])", "_", name).replace("-", "_").lower()
 
 
+def is_shared(path):
+    """Whether a file of specs/ or proofs/ lies outside the functions' own folders."""
+    folder, name = os.path.split(path)
+    return os.path.basename(folder) in ("specs", "proofs") or name not in ("Proof.antt", "Answers.antt", "Invariants.antt")
+
+
 def declared(top):
     """The names with a small first letter that shared files of specs/ and proofs/ declare."""
     found = set()
     for path in files(top, "crates", ".antt"):
-        if os.path.basename(path) not in ("Proof.antt", "Answers.antt", "Invariants.antt"):
+        if is_shared(path):
             for line in read(path).split("\n"):
                 m = DECLARED.match(line)
                 if m and m.group(1)[0].isascii() and m.group(1)[0].islower():
@@ -86,7 +99,9 @@ def turned_code(text, new, mark):
 
 def main():
     top = os.path.join(os.path.dirname(os.path.realpath(__file__)), "..")
-    old = declared(top)
+    old = declared(top) | PARAMETERS
+    if "all_below_lem" in old:
+        sys.exit("respell: the names here are turned already")
     new = {name: snake(name) for name in old if snake(name) != name}
     for path in files(top, "crates", (".rt", ".antt")):
         text = read(path)

@@ -11,7 +11,7 @@ use borrow.Author.Tests.{eq-eqb, ne_eqb, le-leb, lt-leb}
 use Rattle.frames.specs.Layout.{ident_in}
 use Rattle.model.specs.declared.Core.{Core}
 use Rattle.model.specs.Channels.{channels}
-use Rattle.model.specs.State.{Partial, byState, is_running}
+use Rattle.model.specs.State.{Partial, by_state, is_running}
 use Rattle.model.specs.Effects.{Done}
 use Rattle.model.specs.Good.{good_partial}
 use Rattle.model.specs.Arrival.{Arrival.alone, Arrival.growing, Arrival.whole, lengthened, opened_update, opened, followed, decided, judged, taken}
@@ -47,10 +47,10 @@ unfolding judged taken state_of
 whole_settled b s w = rw (whole_decided b.profile b.clock b.core s w) (settled_as b _ _ _)
 
 -- an Update's first byte alone: 10 when tripped, else 6
-pub tripped_answer : (k answer : ℕ) → 2 ≤ k → answer ≡ 10 → answer ≡ cond (byState k false false true) 10 6
+pub tripped_answer : (k answer : ℕ) → 2 ≤ k → answer ≡ 10 → answer ≡ cond (by_state k false false true) 10 6
 tripped_answer k answer t e = rw (sym (tripped_is k) ∙ le-leb 2 k t) e
 
-pub untripped_answer : (k answer : ℕ) → k < 2 → answer ≡ 6 → answer ≡ cond (byState k false false true) 10 6
+pub untripped_answer : (k answer : ℕ) → k < 2 → answer ≡ 6 → answer ≡ cond (by_state k false false true) 10 6
 untripped_answer k answer t e = rw (sym (tripped_is k) ∙ lt-leb 2 k t) e
 
 -- 1: the byte is kept

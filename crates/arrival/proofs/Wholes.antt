@@ -14,7 +14,7 @@ use Rattle.frames.specs.Layout.{ident_in, size_for}
 use Rattle.frames.specs.Reader.{later, has_high}
 use Rattle.model.specs.declared.Core.{Core}
 use Rattle.model.specs.Channels.{channels}
-use Rattle.model.specs.State.{byState}
+use Rattle.model.specs.State.{by_state}
 use Rattle.model.specs.Good.{all_low, good_size}
 use Rattle.model.proofs.Tests.{either_way}
 use Rattle.model.proofs.Partials.{low_append}
@@ -59,15 +59,15 @@ stop_whole n h e =
 -- a kept length is that of the frame that the reader is told of
 told_size : (m : Core) (k size : ℕ) → 2 ≤ size → good_size m k size ≡ true → size ≡ size_for k (told_count size)
 unfolding good_size
-told_size m k size h g = either_way (eqb k 1) (λ e. rw (eqb-true k 1 e) (by_state m.state (rw e at g))) (λ e. rw e (eqb-true size _ (rw e at g))) where
+told_size m k size h g = either_way (eqb k 1) (λ e. rw (eqb-true k 1 e) (by_state_lem m.state (rw e at g))) (λ e. rw e (eqb-true size _ (rw e at g))) where
   told : (c : ℕ) → size ≡ 1 + 3 * c → 1 ≤ c → size ≡ 1 + 3 * told_count size
   told c e l = rw (le-ltb size 3 (omega arith)) (omega arith)
 
-  by_state : (state : ℕ) → byState state false (eqb size (size_for 1 (channels m.run.list.stim))) (within 4 size 25 && eqb (size % 3) 1) ≡ true
+  by_state_lem : (state : ℕ) → by_state state false (eqb size (size_for 1 (channels m.run.list.stim))) (within 4 size 25 && eqb (size % 3) 1) ≡ true
       → size ≡ 1 + 3 * told_count size
-  by_state zero e = absurd (false≢true e)
-  by_state (suc zero) e = let c : size ≡ 1 + 3 * channels m.run.list.stim = eqb-true _ _ e in told (channels m.run.list.stim) c (omega arith)
-  by_state (suc (suc x)) e =
+  by_state_lem zero e = absurd (false≢true e)
+  by_state_lem (suc zero) e = let c : size ≡ 1 + 3 * channels m.run.list.stim = eqb-true _ _ e in told (channels m.run.list.stim) c (omega arith)
+  by_state_lem (suc (suc x)) e =
       let p = both (within 4 size 25) (eqb (size % 3) 1) e in
       let r : size % 3 ≡ 1 = eqb-true _ _ p.1 in
       told (size / 3) (omega arith) (omega arith)

@@ -17,12 +17,12 @@ first_of (t ∷ ts) = cond t.holds t.answer (first_of ts)
 -- ---- which numbers a call answers
 
 -- a number is one of these
-abbrev pub isOneOf : List ℕ → ℕ → Bool
-isOneOf [] n = false
-isOneOf (a ∷ rest) n = eqb n a || isOneOf rest n
+abbrev pub is_one_of : List ℕ → ℕ → Bool
+is_one_of [] n = false
+is_one_of (a ∷ rest) n = eqb n a || is_one_of rest n
 
 -- what is answered to any input is one of these numbers, and to some inputs it is each of them in turn
-pub record Gives {I : Type 0} (answerTo : I → ℕ) (numbers : List ℕ) : Type 0 where
-  pub no_other : (x : I) → isOneOf numbers (answerTo x) ≡ true
+pub record Gives {I : Type 0} (answer_to : I → ℕ) (numbers : List ℕ) : Type 0 where
+  pub no_other : (x : I) → is_one_of numbers (answer_to x) ≡ true
   pub inputs : List I
-  pub each : map answerTo inputs ≡ numbers
+  pub each : map answer_to inputs ≡ numbers

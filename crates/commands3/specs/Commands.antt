@@ -1,7 +1,7 @@
 -- The low-level commands of the RehaMove3 (source 002, section 4): their numbers, their data bytes and their good values. In a byte the first named
 -- field has the highest bits, as 82 in the example of section 7.1 says: execution 1, channel 0, reserved 0, 3 points.
 use Rattle.std.specs.Prelude.{ℕ, ◌+◌, ◌-◌, ◌*◌, ◌/◌, ◌%◌, Bool, true, false, cond, ◌&&◌, ◌||◌, List, [], ◌∷◌, eqb, leb, length, get_or, drop, replicate}
-use Rattle.commands.specs.Answers.{isOneOf}
+use Rattle.commands.specs.Answers.{is_one_of}
 use Rattle.charge.specs.declared.Pulse.{Pulse}
 use Rattle.charge.specs.Charge.{points_of, pulse_good, charge_of, is_zero, is_zero_point, all}
 use Rattle.commands3.specs.declared.Command.{Command}
@@ -42,7 +42,7 @@ data_of m = data_for m.command m.pulse
 
 -- section 6
 abbrev pub good_result : ℕ → Bool
-good_result result = isOneOf (0 ∷ 1 ∷ 2 ∷ 4 ∷ 7 ∷ 10 ∷ 11 ∷ []) result
+good_result result = is_one_of (0 ∷ 1 ∷ 2 ∷ 4 ∷ 7 ∷ 10 ∷ 11 ∷ []) result
 
 -- "Contains electrode error channel, if result == electrode error": 0 to 3 then, any byte else
 abbrev pub good_electrode : ℕ → ℕ → Bool

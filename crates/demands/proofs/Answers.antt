@@ -24,24 +24,24 @@ pub data Way (s : State) (r : Result) : Type 0 where
   answers : r.answer ≤ 10 → Way s r
   ends : r ≡ record { state = s; answer = 15; reply = 0; records = [] } → Way s r
 
-judge-most : (p : Profile) (m : Core) (k : ℕ) (c : Command) → judge p m k c ≤ 10
+judge_most : (p : Profile) (m : Core) (k : ℕ) (c : Command) → judge p m k c ≤ 10
 unfolding judge refusals
-judge-most p m k c = leb-true _ 10 (first_passes (λ a. leb a 10) (refusals m k c ++ 9 when over_limit p m c ∷ []) refl refl)
+judge_most p m k c = leb-true _ 10 (first_passes (λ a. leb a 10) (refusals m k c ++ 9 when over_limit p m c ∷ []) refl refl)
 
-taken-most : (p : Profile) (s : State) (x : Arrival) → (taken p s x).answer ≤ 10
+taken_most : (p : Profile) (s : State) (x : Arrival) → (taken p s x).answer ≤ 10
 unfolding taken judged decided
-taken-most p s stray = lit≤ tt
-taken-most p s alone = either_way (is_tripped s.core) (λ e. rw e (lit≤ tt)) (λ e. rw e (lit≤ tt))
-taken-most p s (growing q) = lit≤ tt
-taken-most p s (whole bytes) = judge-most p s.core _ _
+taken_most p s stray = lit≤ tt
+taken_most p s alone = either_way (is_tripped s.core) (λ e. rw e (lit≤ tt)) (λ e. rw e (lit≤ tt))
+taken_most p s (growing q) = lit≤ tt
+taken_most p s (whole bytes) = judge_most p s.core _ _
 
-pub byte-most : (p : Profile) (s : State) (n : ℕ) → (step p s (byte n)).answer ≤ 10
+pub byte_most : (p : Profile) (s : State) (n : ℕ) → (step p s (byte n)).answer ≤ 10
 unfolding step byte_step
-byte-most p s n = taken-most p s (arrive s.core s.partial n)
+byte_most p s n = taken_most p s (arrive s.core s.partial n)
 
 pub way : (p : Profile) (s : State) (c : Call) → Way s (step p s c)
 unfolding step
-way p s (byte n) = answers (byte-most p s n)
+way p s (byte n) = answers (byte_most p s n)
 way p s tick = tick_cases (Way s) p s (ends refl) (λ _. answers (lit≤ tt))
 
 -- no step is answered 12, 13 or 14

@@ -40,7 +40,7 @@ FeignsTheRest x p capacity =
     (d c : Call) (cs es : List Call) → length cs ≡ length es
     → x.says p capacity (map act (d ∷ cs)) c ≡ x.says p capacity (map act (d ∷ es)) c
 
--- its ring claims a made_up number of bytes: a readout that is answered 0 reports another number than the tail has
+-- its ring claims a made-up number of bytes: a readout that is answered 0 reports another number than the tail has
 pub record ClaimsBytes (x : Program) (p : Profile) (capacity : ℕ) : Type 0 where
   pub behind : List Request
   pub out : List ℕ

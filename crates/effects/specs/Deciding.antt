@@ -4,7 +4,7 @@ use Rattle.commands.specs.Answers.{Test, ◌when◌, first_of}
 use Rattle.commands.specs.Commands.{Command, Command.init, Command.update, Command.stop, Command.single, ident_of}
 use Rattle.frames.specs.declared.Fields.{Fields}
 use Rattle.frames.specs.declared.Read.{Read}
-use Rattle.frames.specs.Layout.{ident_in, byIdent}
+use Rattle.frames.specs.Layout.{ident_in, by_ident}
 use Rattle.frames.specs.Reader.{shape_tests, read_frame}
 use Rattle.commands.specs.Reply.{reply}
 use Rattle.model.specs.declared.Profile.{Profile}
@@ -28,7 +28,7 @@ late p clock m c =
 
 -- the command that a reader reports; what an Update asks for does not depend on its count
 abbrev pub command_from : ℕ → Fields → Command
-command_from k f = byIdent k (init f.init) (update 0 f.entries) stop (single f.single)
+command_from k f = by_ident k (init f.init) (update 0 f.entries) stop (single f.single)
 
 -- 3; 10; 4; then the others
 unfoldable pub decide_read : Profile → ℕ → Core → ℕ → Read → Result

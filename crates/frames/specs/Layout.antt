@@ -12,12 +12,12 @@ abbrev pub ident_in : List ℕ → ℕ
 ident_in s = field (get_or s 0 0) 5 2
 
 -- by Ident: Init, Update, Stop, Single
-abbrev pub byIdent {ℓ} : {A : Type ℓ} → ℕ → A → A → A → A → A
-byIdent k i u p s = cond (eqb k 0) i (cond (eqb k 1) u (cond (eqb k 2) p s))
+abbrev pub by_ident {ℓ} : {A : Type ℓ} → ℕ → A → A → A → A → A
+by_ident k i u p s = cond (eqb k 0) i (cond (eqb k 1) u (cond (eqb k 2) p s))
 
 -- bytes: 6; 1 + 3 per listed channel; 1; 4
 abbrev pub size_for : ℕ → ℕ → ℕ
-size_for k count = byIdent k 6 (1 + 3 * count) 1 4
+size_for k count = by_ident k 6 (1 + 3 * count) 1 4
 
 -- ---- Init: Ident 2, Check 3, N_Factor 3, Channel_Stim 8, Channel_Lf 8, two don't-care bits, Group_Time 5, Main_Time 11, over 7 bits a byte
 
@@ -62,7 +62,7 @@ entries_in s count = settings_in s 1 count ++ replicate (8 - count) no_setting
 
 unfoldable pub command_in : List ℕ → ℕ → Command
 command_in s count =
-    byIdent (ident_in s) (init (init_of (init_word s))) (update count (entries_in s count)) stop (single (single_in s))
+    by_ident (ident_in s) (init (init_of (init_word s))) (update count (entries_in s count)) stop (single (single_in s))
 
 -- Check 3 for Init, Check 5 otherwise
 unfoldable pub check_in : List ℕ → ℕ

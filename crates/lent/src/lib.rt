@@ -1,5 +1,5 @@
 // The box lent by reference and changed where it lies: each call is the call by value, its box stored. Exported, in the layout that
-// the head of `box_exports` tells; a crate of its own, as its walks take long to check.
+// the head of `box_exports` tells; a crate and an archive of its own.
 #![tactic(auto)]
 
 ghost use Rattle.std.specs.Prelude.{◌≡◌};

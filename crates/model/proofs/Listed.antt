@@ -11,7 +11,7 @@ use Rattle.model.specs.declared.Core.{Core}
 use Rattle.model.specs.Below.{all_below}
 use Rattle.model.specs.Channels.{in_set, many, channels}
 use Rattle.model.specs.State.{is_running}
-use Rattle.model.proofs.Below.{each_below}
+use Rattle.model.proofs.Below.{each_below_lem}
 use Rattle.model.proofs.GoodRuns.{Within, in_range_lem}
 use Rattle.model.proofs.GoodStates.{GoodCore}
 
@@ -27,7 +27,7 @@ table = refl
 -- a list has one to eight channels
 some_listed : (stim : ℕ) → Within 1 stim 255 → Within 1 (channels stim) 8
 some_listed stim w =
-    let t : lists stim ≡ true = each_below 256 lists table stim (omega arith) in
+    let t : lists stim ≡ true = each_below_lem 256 lists table stim (omega arith) in
     in_range_lem 1 (channels stim) 8 (rw (ne_eqb stim 0 (omega arith)) at t)
 
 -- a list that runs has channels

@@ -8,7 +8,7 @@ use native.Mathlib.Nat.{sub-zero}
 use borrow.Author.Tests.{leb-true, lt-ltb, le-ltb}
 use Rattle.trace.specs.declared.Record.{Record}
 use Rattle.model.specs.declared.Run.{Run}
-use Rattle.model.specs.Below.{eachBelow}
+use Rattle.model.specs.Below.{each_below}
 use Rattle.model.specs.Channels.{many}
 use Rattle.model.specs.Timing.{t2, keeps_modules}
 use Rattle.model.specs.Slots.{slot, due, first_due}
@@ -23,7 +23,7 @@ each_from i zero f = []
 each_from i (suc n) f = f i ++ each_from (suc i) n f
 
 -- module A, then module B
-module_by_module : (f : ℕ → List Record) → eachBelow 8 f ≡ each_from 0 4 f ++ each_from 4 4 f
+module_by_module : (f : ℕ → List Record) → each_below 8 f ≡ each_from 0 4 f ++ each_from 4 4 f
 module_by_module f = simp (append_assoc, append-nil)
 
 module _ (clock : ℕ) (r : Run) where

@@ -8,7 +8,7 @@ use Rattle.commands.proofs.Tests.{both}
 use Rattle.model.specs.declared.Profile.{Profile}
 use Rattle.model.specs.declared.Run.{Run}
 use Rattle.model.specs.declared.Core.{Core}
-use Rattle.model.specs.State.{byState, still}
+use Rattle.model.specs.State.{by_state, still}
 use Rattle.model.specs.Effects.{fed, trip}
 use Rattle.model.specs.Good.{zero_list, all_zero, zero_run}
 use Rattle.model.proofs.Tests.{◌and◌, not_both}
@@ -27,7 +27,7 @@ fed_zero r e =
 
 -- a core with these zeros; a trip keeps the holds
 module _ (p : Profile) (clock : ℕ) where
-  pub rest_core : {a b k : ℕ} → a ≤ 15 → b ≤ 15 → k ≤ 2 → byState k false true false ≡ false
+  pub rest_core : {a b k : ℕ} → a ≤ 15 → b ≤ 15 → k ≤ 2 → by_state k false true false ≡ false
       → GoodCore p clock (record { holda = a; holdb = b; state = k; run = still })
   rest_core a b k e = record { holda = a; holdb = b; state = k; running = λ f. not_both f e; resting = λ f. still_zero }
 

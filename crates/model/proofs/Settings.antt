@@ -18,7 +18,7 @@ use Rattle.model.specs.Timing.{keeps_main, largest_mode, update_timing}
 use Rattle.model.specs.Profiles.{over_at, over_limits}
 use Rattle.model.specs.Good.{all_good, all_zero, only_listed}
 use Rattle.model.proofs.Tests.{◌and◌, either_way}
-use Rattle.model.proofs.Below.{each_below, all_below_lem, no_below, most_zero, row_at}
+use Rattle.model.proofs.Below.{each_below_lem, all_below_lem, no_below, most_zero, row_at}
 
 -- a setting whose variables sum to 0 is good
 zero_good : (x : Setting) → is_zero x ≡ true → good_setting x ≡ true
@@ -54,7 +54,7 @@ pub record Fits (p : Profile) (v : Init) (settings : List Setting) : Type 0 wher
 -- settings that are all zero, of any list
 module _ (settings : List Setting) (z : all_zero settings ≡ true) where
   zeros : (i : ℕ) → i < 8 → get_or settings i no_setting ≡ no_setting
-  zeros i h = zero_is (get_or settings i no_setting) (each_below 8 (λ i. is_zero (get_or settings i no_setting)) z i h)
+  zeros i h = zero_is (get_or settings i no_setting) (each_below_lem 8 (λ i. is_zero (get_or settings i no_setting)) z i h)
 
   pub zeros_unlisted : (stim : ℕ) → only_listed stim settings ≡ true
   unfolding only_listed

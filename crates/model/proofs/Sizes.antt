@@ -13,7 +13,7 @@ use Rattle.commands.proofs.Tests.{both}
 use Rattle.frames.specs.Layout.{ident_in, size_for}
 use Rattle.model.specs.declared.Core.{Core}
 use Rattle.model.specs.Channels.{channels}
-use Rattle.model.specs.State.{byState, is_running}
+use Rattle.model.specs.State.{by_state, is_running}
 use Rattle.model.specs.Effects.{trip}
 use Rattle.model.specs.Good.{all_low, good_size, good_partial}
 use Rattle.model.proofs.Tests.{◌and◌, either_way, not_both}
@@ -23,7 +23,7 @@ use Rattle.model.proofs.GoodRuns.{Within}
 state_running : (m : Core) → is_running m ≡ true → m.state ≡ 1
 state_running m e = by m.state e
   where
-    by : (n : ℕ) → byState n false true false ≡ true → n ≡ 1
+    by : (n : ℕ) → by_state n false true false ≡ true → n ≡ 1
     by zero f = not_both f refl
     by (suc zero) f = refl
     by (suc (suc n)) f = not_both f refl

@@ -16,10 +16,10 @@ most_below zero f = 0
 most_below (suc n) f = max (most_below n f) (f n)
 
 -- what f gives at 0, 1, .. n - 1, in this order: a row of one each; lists joined
-abbrev pub rowBelow {ℓ} : {A : Type ℓ} → ℕ → (ℕ → A) → List A
-rowBelow zero f = []
-rowBelow (suc n) f = rowBelow n f ++ f n ∷ []
+abbrev pub row_below {ℓ} : {A : Type ℓ} → ℕ → (ℕ → A) → List A
+row_below zero f = []
+row_below (suc n) f = row_below n f ++ f n ∷ []
 
-abbrev pub eachBelow {ℓ} : {A : Type ℓ} → ℕ → (ℕ → List A) → List A
-eachBelow zero f = []
-eachBelow (suc n) f = eachBelow n f ++ f n
+abbrev pub each_below {ℓ} : {A : Type ℓ} → ℕ → (ℕ → List A) → List A
+each_below zero f = []
+each_below (suc n) f = each_below n f ++ f n

@@ -3,7 +3,7 @@ use Rattle.std.specs.Prelude.{ℕ, zero, suc, ◌+◌, Bool, cond, List, eqb, ge
 use Rattle.bits.specs.Fields.{field}
 use Rattle.commands.specs.declared.Setting.{Setting}
 use Rattle.commands.specs.Commands.{no_setting}
-use Rattle.model.specs.Below.{rowBelow}
+use Rattle.model.specs.Below.{row_below}
 
 unfoldable pub in_set : ℕ → ℕ → Bool
 in_set set i = eqb (field set i 1) 1
@@ -23,4 +23,4 @@ silence = replicate 8 no_setting
 
 -- an Update's entries at their channels, lowest first; settings of channels not listed are zero
 unfoldable pub placed : ℕ → List Setting → List Setting
-placed stim entries = rowBelow 8 λ i. cond (in_set stim i) (get_or entries (many stim 0 i) no_setting) no_setting
+placed stim entries = row_below 8 λ i. cond (in_set stim i) (get_or entries (many stim 0 i) no_setting) no_setting

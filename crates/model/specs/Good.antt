@@ -14,7 +14,7 @@ use Rattle.model.specs.Below.{all_below}
 use Rattle.model.specs.Channels.{in_set, channels}
 use Rattle.model.specs.Timing.{t1, init_timing, update_timing}
 use Rattle.model.specs.Profiles.{over_limits}
-use Rattle.model.specs.State.{State, byState, is_running}
+use Rattle.model.specs.State.{State, by_state, is_running}
 use Rattle.model.specs.Ticks.{last_clock}
 
 -- what is asked of a running box alone, and of a box not running
@@ -108,7 +108,7 @@ all_low (b ∷ bytes) = not (high b) && all_low bytes
 -- "That length is the frame's own; for Update it is the running list's, or 4 to 25 in steps of 3 when tripped, and no Update is open
 -- when idle"
 abbrev pub good_update_size : Core → ℕ → Bool
-good_update_size m n = byState m.state false (eqb n (size_for 1 (channels m.run.list.stim))) (within 4 n 25 && eqb (n % 3) 1)
+good_update_size m n = by_state m.state false (eqb n (size_for 1 (channels m.run.list.stim))) (within 4 n 25 && eqb (n % 3) 1)
 
 unfoldable pub good_size : Core → ℕ → ℕ → Bool
 good_size m k n = cond (eqb k 1) (good_update_size m n) (eqb n (size_for k 1))

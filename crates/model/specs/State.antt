@@ -19,16 +19,16 @@ pub record State : Type 0 where
   pub core : Core
 
 -- by state: 0 idle, 1 running, 2 tripped; a good record has no number above, which counts as tripped
-abbrev pub byState {ℓ} : {A : Type ℓ} → ℕ → A → A → A → A
-byState zero whenIdle whenRunning whenTripped = whenIdle
-byState (suc zero) whenIdle whenRunning whenTripped = whenRunning
-byState (suc (suc n)) whenIdle whenRunning whenTripped = whenTripped
+abbrev pub by_state {ℓ} : {A : Type ℓ} → ℕ → A → A → A → A
+by_state zero when_idle when_running when_tripped = when_idle
+by_state (suc zero) when_idle when_running when_tripped = when_running
+by_state (suc (suc n)) when_idle when_running when_tripped = when_tripped
 
 abbrev pub is_running : Core → Bool
-is_running m = byState m.state false true false
+is_running m = by_state m.state false true false
 
 abbrev pub is_tripped : Core → Bool
-is_tripped m = byState m.state false false true
+is_tripped m = by_state m.state false false true
 
 -- Whenever the box is not running, list, settings, waiting update, position, cycle and watchdog count are zero
 abbrev pub still : Run

@@ -6,7 +6,7 @@ use Rattle.trace.specs.declared.Record.{Record}
 use Rattle.model.specs.declared.Profile.{Profile}
 use Rattle.model.specs.declared.Run.{Run}
 use Rattle.model.specs.declared.Core.{Core}
-use Rattle.model.specs.Below.{eachBelow}
+use Rattle.model.specs.Below.{each_below}
 use Rattle.model.specs.Channels.{silence}
 use Rattle.model.specs.Timing.{t1}
 use Rattle.model.specs.Slots.{due}
@@ -46,7 +46,7 @@ due_pulse clock r i =
 
 -- the pulses due at this position, A before B
 unfoldable pub releases : ℕ → Run → List Record
-releases clock r = eachBelow 8 (due_pulse clock r)
+releases clock r = each_below 8 (due_pulse clock r)
 
 -- while running: on reaching the watchdog the box trips and releases nothing, otherwise the pulses due are released
 unfoldable pub watched : Profile → ℕ → Core → Done

@@ -8,7 +8,7 @@ use lib.Dec.{eqb}
 use lib.ListN.{length, drop, length-append, length-drop}
 use lib.Seq.{drop-append_seam}
 use borrow.Author.Tests.{eqb-true, eqb-false, not-true}
-use Rattle.commands.specs.Answers.{isOneOf}
+use Rattle.commands.specs.Answers.{is_one_of}
 use Rattle.commands.proofs.Tests.{first_passes}
 use Rattle.framing.specs.Scan.{first_found}
 use Rattle.packets.specs.Generation.{Generation}
@@ -34,9 +34,9 @@ module _ {C : Type 0} (g : Generation C) where
     past : drop r.size o ≡ drop r.size out
     leaves : (r.answer ≡ 0 → ⊥) → o ≡ out
     zeros : (r.answer ≡ 0 → ⊥) → r ≡ refused g r.answer r.used
-    unused : isOneOf (1 ∷ 16 ∷ []) r.answer ≡ true → r.used ≡ 0
+    unused : is_one_of (1 ∷ 16 ∷ []) r.answer ≡ true → r.used ≡ 0
 
-  refusal_keeps : (out : List ℕ) (a used : ℕ) → (isOneOf (1 ∷ 16 ∷ []) a ≡ true → used ≡ 0) → Kept out (refused g a used) out
+  refusal_keeps : (out : List ℕ) (a used : ℕ) → (is_one_of (1 ∷ 16 ∷ []) a ≡ true → used ≡ 0) → Kept out (refused g a used) out
   refusal_keeps out a used unused = record { size = refl; past = refl; leaves = λ _. refl; zeros = λ _. refl; unused = unused }
 
   found_keeps : (out c : List ℕ) (used : ℕ) → length (data_in c) ≤ length out → Kept out (found g c used) (put_over (data_in c) out)

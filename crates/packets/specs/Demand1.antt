@@ -1,7 +1,7 @@
 -- Demand 1 on packets of any generation: any bytes, commands and outputs get a defined answer, which is that reader and writer are functions here; no
 -- byte of the output changes but those that are reported, and a refusal, with whatever answer, changes none and reports nothing.
 use Rattle.std.specs.Prelude.{ℕ, Bool, true, ◌≡◌, List, [], ◌∷◌, length, drop}
-use Rattle.commands.specs.Answers.{isOneOf}
+use Rattle.commands.specs.Answers.{is_one_of}
 use Rattle.packets.specs.Generation.{Generation}
 use Rattle.packets.specs.Reader.{refused, reading, data_put}
 use Rattle.packets.specs.Writer.{wrote_of, written_of}
@@ -14,7 +14,7 @@ pub record ReaderKeeps {C : Type 0} (g : Generation C) (s out : List ℕ) : Type
   -- all zero but the answer and, for 3 and 4, the bytes used
   pub zeros : ((reading g s (length out)).answer ≡ 0 → ⊥)
       → reading g s (length out) ≡ refused g (reading g s (length out)).answer (reading g s (length out)).used
-  pub unused : isOneOf (1 ∷ 16 ∷ []) (reading g s (length out)).answer ≡ true → (reading g s (length out)).used ≡ 0
+  pub unused : is_one_of (1 ∷ 16 ∷ []) (reading g s (length out)).answer ≡ true → (reading g s (length out)).used ≡ 0
 
 -- the writer of the packet p, where its values are good, into the output out
 pub record WriterKeeps (good : Bool) (p out : List ℕ) : Type 0 where

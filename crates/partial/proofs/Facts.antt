@@ -14,7 +14,7 @@ use Rattle.frames.specs.Layout.{ident_in, size_for}
 use Rattle.frames.specs.Reader.{has_high}
 use Rattle.model.specs.declared.Core.{Core}
 use Rattle.model.specs.Channels.{channels}
-use Rattle.model.specs.State.{byState}
+use Rattle.model.specs.State.{by_state}
 use Rattle.model.specs.Good.{all_low, good_update_size, good_size, good_partial}
 use Rattle.model.proofs.Turns.{many_most}
 use Rattle.partial.proofs.Lows.{low_found}
@@ -47,7 +47,7 @@ pub low_no_high : (s : List ℕ) → all_low s ≡ true → has_high s ≡ false
 low_no_high s e = let f : first_high s ≡ length s = eqb-true _ _ (low_found s ∙ e) in le-ltb (first_high s) (length s) (omega arith)
 
 -- an Update's length, of n channels
-update_most : (k size n : ℕ) → n ≤ 8 → byState k false (eqb size (1 + 3 * n)) (within 4 size 25 && eqb (size % 3) 1) ≡ true → size ≤ 25
+update_most : (k size n : ℕ) → n ≤ 8 → by_state k false (eqb size (1 + 3 * n)) (within 4 size 25 && eqb (size % 3) 1) ≡ true → size ≤ 25
 update_most zero size n h e = absurd (false≢true e)
 update_most (suc zero) size n h e = omega (arith, eqb-true size (1 + 3 * n) e)
 update_most (suc (suc k)) size n h e =
@@ -64,7 +64,7 @@ other_most false false false = omega arith
 -- a kept length is at most 25
 pub size_most : (m : Core) (k size : ℕ) → good_size m k size ≡ true → size ≤ 25
 unfolding good_size
-size_most m k size = by_ident (eqb k 1) where
-  by_ident : (update : Bool) → cond update (good_update_size m size) (eqb size (size_for k 1)) ≡ true → size ≤ 25
-  by_ident true e = update_most m.state size (channels m.run.list.stim) (many_most m.run.list.stim 0 8) e
-  by_ident false e = omega (arith, eqb-true size (size_for k 1) e, other_most (eqb k 0) (eqb k 1) (eqb k 2))
+size_most m k size = by_ident_lem (eqb k 1) where
+  by_ident_lem : (update : Bool) → cond update (good_update_size m size) (eqb size (size_for k 1)) ≡ true → size ≤ 25
+  by_ident_lem true e = update_most m.state size (channels m.run.list.stim) (many_most m.run.list.stim 0 8) e
+  by_ident_lem false e = omega (arith, eqb-true size (size_for k 1) e, other_most (eqb k 0) (eqb k 1) (eqb k 2))

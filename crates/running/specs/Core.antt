@@ -1,5 +1,5 @@
 -- The tests that `model/specs/Good` lists of a core, by parts, as the code asks them: what belongs to one row of settings stands together.
--- That it is the same is `state-parts` of `proofs/Parts`.
+-- That it is the same is `state_parts` of `proofs/Parts`.
 use Rattle.std.specs.Prelude.{ℕ, Bool, cond, not, ◌&&◌, ◌||◌, List}
 use Rattle.commands.specs.declared.Init.{Init}
 use Rattle.commands.specs.declared.Setting.{Setting}

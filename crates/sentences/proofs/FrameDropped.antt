@@ -4,7 +4,7 @@ use mathlib.Core.Bool.{true, not, false≢true}
 use mathlib.Core.Path.{◌≡◌, refl}
 use mathlib.Core.List.{List, [], ◌∷◌}
 use borrow.Author.Tests.{not-true}
-use Rattle.commands.specs.Answers.{isOneOf}
+use Rattle.commands.specs.Answers.{is_one_of}
 use Rattle.commands.specs.Commands.{Command, ident_of}
 use Rattle.frames.specs.Layout.{check_in}
 use Rattle.trace.specs.declared.Part.{Part}
@@ -53,13 +53,13 @@ record Drops (s : State) (r : Result) : Type 0 where
   one_record : r.records ≡ Answer s.clock kind r.answer ∷ []
 
 -- an answer that drops the frame is not 0 and not 9
-carry_left : (clock : ℕ) (m : Core) (c : Command) (answer : ℕ) → isOneOf dropping answer ≡ true → Left m (carry clock m c answer)
+carry_left : (clock : ℕ) (m : Core) (c : Command) (answer : ℕ) → is_one_of dropping answer ≡ true → Left m (carry clock m c answer)
 carry_left clock m c answer h =
     carry_ways (Left m) clock m c answer (λ e. absurd (false≢true (rw e at h))) (λ e. absurd (false≢true (rw e at h)))
     (λ e. record { watch = m.run.watch; same_core = refl; no_record = refl })
     (λ e f. record { watch = 0; same_core = refl; no_record = refl })
 
-taken_drops : (p : Profile) (s : State) (x : Arrival) → isOneOf dropping (taken p s x).answer ≡ true → Drops s (taken p s x)
+taken_drops : (p : Profile) (s : State) (x : Arrival) → is_one_of dropping (taken p s x).answer ≡ true → Drops s (taken p s x)
 unfolding taken decided judged
 taken_drops p s stray h = absurd (false≢true h)
 taken_drops p s alone h = record { watch = s.core.run.watch; same_state = refl; kind = 1; one_record = refl }
@@ -69,16 +69,16 @@ taken_drops p s (whole bytes) h =
     let l = carry_left s.clock s.core c (judge p s.core (check_in bytes) c) h in
     record { watch = l.watch; same_state = rw l.same_core; kind = ident_of c; one_record = rw l.no_record }
 
-step_drops : (p : Profile) (s : State) (c : Call) → isOneOf dropping (step p s c).answer ≡ true → Drops s (step p s c)
+step_drops : (p : Profile) (s : State) (c : Call) → is_one_of dropping (step p s c).answer ≡ true → Drops s (step p s c)
 unfolding step byte_step
 step_drops p s (byte n) = taken_drops p s (arrive s.core s.partial n)
 step_drops p s tick =
-    tick_cases (λ r. isOneOf dropping r.answer ≡ true → Drops s r) p s (λ h. absurd (false≢true h)) (λ moves h. absurd (false≢true h))
+    tick_cases (λ r. is_one_of dropping r.answer ≡ true → Drops s r) p s (λ h. absurd (false≢true h)) (λ moves h. absurd (false≢true h))
 
 -- ---- the box
 
 module _ (b : Box) (buf : List ℕ) (at : Part) (c : Call) where
-  given_drops : ready_answer buf at b.ring ≡ 0 → isOneOf dropping (stepped b c).answer ≡ true → Dropped b buf at (step_filed b buf at (stepped b c))
+  given_drops : ready_answer buf at b.ring ≡ 0 → is_one_of dropping (stepped b c).answer ≡ true → Dropped b buf at (step_filed b buf at (stepped b c))
   unfolding step_filed box_of state_of frame_of said_of pulse_of
   given_drops ready h =
       let d = step_drops b.profile (state_of b) c h in
@@ -106,6 +106,6 @@ module _ (b : Box) (buf : List ℕ) (at : Part) (c : Call) where
 pub drops_frame : DropsFrame
 unfolding said_of step_filed
 drops_frame b buf at c =
-    call_ways b buf at (λ r. isOneOf dropping r.called.said.answer ≡ true → Dropped b buf at r) c
+    call_ways b buf at (λ r. is_one_of dropping r.called.said.answer ≡ true → Dropped b buf at r) c
     (λ g ready. given_drops b buf at c ready)
-    (λ h. not_both h (not-true _ (refusal_passes b buf at (λ a. not (isOneOf dropping a)) refl refl)))
+    (λ h. not_both h (not-true _ (refusal_passes b buf at (λ a. not (is_one_of dropping a)) refl refl)))

@@ -9,7 +9,7 @@ use lib.ListN.{length, length-append}
 use borrow.Author.Tests.{eq-eqb, ne_eqb, not-true}
 use Rattle.bits.specs.High.{high}
 use Rattle.commands.specs.declared.Setting.{Setting}
-use Rattle.commands.specs.Answers.{isOneOf}
+use Rattle.commands.specs.Answers.{is_one_of}
 use Rattle.commands.specs.Commands.{Command.update, check_of}
 use Rattle.frames.specs.Layout.{ident_in, check_in}
 use Rattle.frames.proofs.Idents.{update_here}
@@ -41,13 +41,13 @@ ident_append (b ∷ bytes) n e = e
 
 -- what a call gives: an answer of these, a box that is tripped still, and so many bytes to come
 record Goes (allowed : List ℕ) (left : ℕ) (r : Result) : Type 0 where
-  answered : isOneOf allowed r.answer ≡ true
+  answered : is_one_of allowed r.answer ≡ true
   down : is_tripped r.state.core ≡ true
   open_still : Open left r.state.partial
 
 module _ (p : Profile) (clock : ℕ) (m : Core) (t : is_tripped m ≡ true) where
   -- a finished Update
-  judge_update : (n k count : ℕ) (entries : List Setting) → isOneOf (finishing (byte n) 1) (judge p m k (update count entries)) ≡ true
+  judge_update : (n k count : ℕ) (entries : List Setting) → is_one_of (finishing (byte n) 1) (judge p m k (update count entries)) ≡ true
   unfolding judge refusals
   judge_update n k count entries = either_way (eqb k (check_of (update count entries))) (λ e. rw (e, t)) (λ e. rw e)
 
@@ -84,7 +84,7 @@ unfolding step byte_step arrive
 goes_on_lem p s (byte n) left t o l = rw (not-true (high n) l) (follows p s.clock s.core t left s.partial n o)
 goes_on_lem p s tick left t o l =
     record {
-      answered = tick_cases (λ r. isOneOf (0 ∷ 15 ∷ []) r.answer ≡ true) p s refl (λ moves. refl);
+      answered = tick_cases (λ r. is_one_of (0 ∷ 15 ∷ []) r.answer ≡ true) p s refl (λ moves. refl);
       down = tripped_tick p s t;
       open_still = tick_cases (λ r. Open left r.state.partial) p s o (λ moves. o);
     }

@@ -10,7 +10,7 @@ use Rattle.trace.specs.declared.Record.{Record}
 use Rattle.model.specs.declared.Profile.{Profile}
 use Rattle.model.specs.declared.Run.{Run}
 use Rattle.model.specs.declared.Core.{Core}
-use Rattle.model.specs.Below.{eachBelow}
+use Rattle.model.specs.Below.{each_below}
 use Rattle.model.specs.Channels.{in_set}
 use Rattle.model.specs.Timing.{keeps_modules, keeps_main}
 use Rattle.model.specs.Slots.{in_turn, due}
@@ -93,7 +93,7 @@ module _ (r : Run) (lf : ℕ) (h : SameInside r.list lf) where
   unfolding releases
   releases_alike clock = below 8
     where
-      below : (n : ℕ) → eachBelow n (due_pulse clock (run_with_lf r lf)) ≡ eachBelow n (due_pulse clock r)
+      below : (n : ℕ) → each_below n (due_pulse clock (run_with_lf r lf)) ≡ each_below n (due_pulse clock r)
       below zero = refl
       below (suc n) = ap₂ (λ (xs ys : List Record). xs ++ ys) (below n) (pulse_alike clock n)
 

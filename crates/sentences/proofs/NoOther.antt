@@ -6,7 +6,7 @@ use mathlib.Core.List.{List, [], ◌∷◌, ◌++◌, map}
 use native.Mathlib.Omega.{arith}
 use lib.Dec.{ltb, eqb}
 use lib.ListN.{length}
-use Rattle.commands.specs.Answers.{Test, ◌when◌, first_of, isOneOf, Gives}
+use Rattle.commands.specs.Answers.{Test, ◌when◌, first_of, is_one_of, Gives}
 use Rattle.commands.specs.Commands.{Command, good}
 use Rattle.commands.proofs.Tests.{both, first_passes}
 use Rattle.frames.specs.Layout.{command_in, check_in}
@@ -20,7 +20,7 @@ use Rattle.model.specs.Below.{all_below}
 use Rattle.model.specs.Profiles.{good_profile}
 use Rattle.model.specs.Machine.{Call.byte, Call.tick, step}
 use Rattle.model.proofs.Tests.{either_way}
-use Rattle.model.proofs.Below.{each_below}
+use Rattle.model.proofs.Below.{each_below_lem}
 use Rattle.model.proofs.Cases.{tick_cases}
 use Rattle.record.specs.declared.Box.{Box}
 use Rattle.record.specs.Box.{state_of, good_box}
@@ -28,40 +28,40 @@ use Rattle.said.specs.Said.{said_of}
 use Rattle.calls.specs.Making.{make_of}
 use Rattle.calls.specs.Calls.{step_filed}
 use Rattle.calls.specs.Readout.{readout_of}
-use Rattle.demands.proofs.Answers.{byte-most}
+use Rattle.demands.proofs.Answers.{byte_most}
 use Rattle.sentences.specs.WhichAnswers.{to_byte, to_tick, to_readout, to_making, of_reader, of_writer}
 use Rattle.sentences.proofs.Calls.{call_ways, refusal_passes}
 
 -- each of these is one of the numbers
 abbrev all_of : List ℕ → List ℕ → Bool
 all_of numbers [] = true
-all_of numbers (n ∷ ns) = isOneOf numbers n && all_of numbers ns
+all_of numbers (n ∷ ns) = is_one_of numbers n && all_of numbers ns
 
-module _ {numbers : List ℕ} (zero-too : isOneOf numbers 0 ≡ true) where
-  pub byte_gives : all_below 11 (isOneOf numbers) ≡ true → all_of numbers (12 ∷ 13 ∷ 14 ∷ []) ≡ true
+module _ {numbers : List ℕ} (zero-too : is_one_of numbers 0 ≡ true) where
+  pub byte_gives : all_below 11 (is_one_of numbers) ≡ true → all_of numbers (12 ∷ 13 ∷ 14 ∷ []) ≡ true
       → (inputs : List (Box × List ℕ × Part × ℕ)) → map to_byte inputs ≡ numbers → Gives to_byte numbers
   unfolding step_filed said_of
   byte_gives below above inputs each =
       record {
         no_other = λ x.
             let b = x.0 in
-            call_ways b x.1 x.2 (λ r. isOneOf numbers r.called.said.answer ≡ true) (byte x.3)
-            (λ g ready. each_below 11 (isOneOf numbers) below _ (omega (arith, byte-most b.profile (state_of b) x.3)))
-            (refusal_passes b x.1 x.2 (isOneOf numbers) zero-too above);
+            call_ways b x.1 x.2 (λ r. is_one_of numbers r.called.said.answer ≡ true) (byte x.3)
+            (λ g ready. each_below_lem 11 (is_one_of numbers) below _ (omega (arith, byte_most b.profile (state_of b) x.3)))
+            (refusal_passes b x.1 x.2 (is_one_of numbers) zero-too above);
         inputs = inputs;
         each = each;
       }
 
-  pub tick_gives : isOneOf numbers 15 ≡ true → all_of numbers (12 ∷ 13 ∷ 14 ∷ []) ≡ true
+  pub tick_gives : is_one_of numbers 15 ≡ true → all_of numbers (12 ∷ 13 ∷ 14 ∷ []) ≡ true
       → (inputs : List (Box × List ℕ × Part)) → map to_tick inputs ≡ numbers → Gives to_tick numbers
   unfolding step_filed said_of step
   tick_gives end above inputs each =
       record {
         no_other = λ x.
             let b = x.0 in
-            call_ways b x.1 x.2 (λ r. isOneOf numbers r.called.said.answer ≡ true) tick
-            (λ g ready. tick_cases (λ r. isOneOf numbers r.answer ≡ true) b.profile (state_of b) end (λ moves. zero-too))
-            (refusal_passes b x.1 x.2 (isOneOf numbers) zero-too above);
+            call_ways b x.1 x.2 (λ r. is_one_of numbers r.called.said.answer ≡ true) tick
+            (λ g ready. tick_cases (λ r. is_one_of numbers r.answer ≡ true) b.profile (state_of b) end (λ moves. zero-too))
+            (refusal_passes b x.1 x.2 (is_one_of numbers) zero-too above);
         inputs = inputs;
         each = each;
       }
@@ -73,8 +73,8 @@ module _ {numbers : List ℕ} (zero-too : isOneOf numbers 0 ≡ true) where
       record {
         no_other = λ x.
             either_way (good_box x.0)
-            (λ e. rw (e, to_readout) (first_passes (isOneOf numbers) (readout_tests x.1 x.2 x.0.ring x.3) zero-too above))
-            (λ e. rw (e, to_readout) (both (isOneOf numbers 12) _ above).0);
+            (λ e. rw (e, to_readout) (first_passes (is_one_of numbers) (readout_tests x.1 x.2 x.0.ring x.3) zero-too above))
+            (λ e. rw (e, to_readout) (both (is_one_of numbers 12) _ above).0);
         inputs = inputs;
         each = each;
       }
@@ -84,7 +84,7 @@ module _ {numbers : List ℕ} (zero-too : isOneOf numbers 0 ≡ true) where
   making_gives above inputs each =
       record {
         no_other = λ x.
-            first_passes (isOneOf numbers) (11 when not (good_profile x.0) ∷ 13 when not (good_capacity x.1) ∷ []) zero-too above;
+            first_passes (is_one_of numbers) (11 when not (good_profile x.0) ∷ 13 when not (good_capacity x.1) ∷ []) zero-too above;
         inputs = inputs;
         each = each;
       }
@@ -99,7 +99,7 @@ module _ {numbers : List ℕ} (zero-too : isOneOf numbers 0 ≡ true) where
             let ts : List Test = shape_tests x.0 x.1 ++ value_tests (check_in x.0) c in
             either_way (eqb (first_of ts) 0)
             (λ e. rw (e, of_reader) zero-too)
-            (λ e. rw (e, of_reader) (first_passes (isOneOf numbers) ts zero-too above));
+            (λ e. rw (e, of_reader) (first_passes (is_one_of numbers) ts zero-too above));
         inputs = inputs;
         each = each;
       }
@@ -109,7 +109,7 @@ module _ {numbers : List ℕ} (zero-too : isOneOf numbers 0 ≡ true) where
   writer_gives above inputs each =
       record {
         no_other = λ x.
-            first_passes (isOneOf numbers) (4 when not (good x.0) ∷ 16 when ltb (length x.1) (frame_size x.0) ∷ []) zero-too above;
+            first_passes (is_one_of numbers) (4 when not (good x.0) ∷ 16 when ltb (length x.1) (frame_size x.0) ∷ []) zero-too above;
         inputs = inputs;
         each = each;
       }

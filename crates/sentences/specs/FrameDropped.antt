@@ -1,6 +1,6 @@
 -- Document 01, "Numbers the box answers": "'Frame dropped': nothing but the partial frame, the watchdog count and the ring changes."
 use Rattle.std.specs.Prelude.{ℕ, true, ◌≡◌, List, [], ◌∷◌, get_or}
-use Rattle.commands.specs.Answers.{isOneOf}
+use Rattle.commands.specs.Answers.{is_one_of}
 use Rattle.trace.specs.declared.Part.{Part}
 use Rattle.trace.specs.Claims.{Outside}
 use Rattle.model.specs.State.{no_frame}
@@ -39,5 +39,5 @@ pub record Dropped (b : Box) (buf : List ℕ) (at : Part) (r : Answered) : Type 
 
 abbrev pub DropsFrame : Type 0
 DropsFrame =
-    (b : Box) (buf : List ℕ) (at : Part) (c : Call) → isOneOf dropping (call_of b buf at c).called.said.answer ≡ true
+    (b : Box) (buf : List ℕ) (at : Part) (c : Call) → is_one_of dropping (call_of b buf at c).called.said.answer ≡ true
     → Dropped b buf at (call_of b buf at c)

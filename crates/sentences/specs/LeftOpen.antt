@@ -2,7 +2,7 @@
 -- trip still finishes, with 3 or 10."
 use Rattle.std.specs.Prelude.{ℕ, zero, suc, ◌-◌, ◌<◌, Bool, true, false, not, ◌≡◌, List, [], ◌∷◌, length}
 use Rattle.bits.specs.High.{high}
-use Rattle.commands.specs.Answers.{isOneOf}
+use Rattle.commands.specs.Answers.{is_one_of}
 use Rattle.frames.specs.Layout.{ident_in}
 use Rattle.model.specs.declared.Profile.{Profile}
 use Rattle.model.specs.State.{State, is_tripped}
@@ -44,7 +44,7 @@ unfoldable pub Finishes : Profile → State → ℕ → List Call → Type 0
 Finishes p s left [] = is_tripped s.core ≡ true
 Finishes p s left (c ∷ cs) =
     (is_tripped s.core ≡ true)
-    × (isOneOf (finishing c left) (step p s c).answer ≡ true)
+    × (is_one_of (finishing c left) (step p s c).answer ≡ true)
     × Finishes p (step p s c).state (less_by c left) cs
 
 -- a tripped box finishes the Update that is open

@@ -10,7 +10,7 @@ use Rattle.commands.specs.Ranges.{within, good_pulse}
 use Rattle.commands.proofs.Tests.{both}
 use Rattle.trace.specs.declared.Record.{Record}
 use Rattle.trace.specs.declared.Record.TheVariants.{Answer, Trip}
-use Rattle.model.specs.Below.{eachBelow}
+use Rattle.model.specs.Below.{each_below}
 use Rattle.model.specs.Slots.{felt}
 use Rattle.model.specs.Effects.{pulse}
 use Rattle.model.specs.Ticks.{last_clock}
@@ -24,10 +24,10 @@ unfolding all_in_range
 append_in [] ys e f = f
 append_in (x ∷ xs) ys e f = let p = both (in_range x) (all_in_range xs) e in p.0 and append_in xs ys p.1 f
 
-pub each_in : (n : ℕ) (f : ℕ → List Record) → ((i : ℕ) → i < n → all_in_range (f i) ≡ true) → all_in_range (eachBelow n f) ≡ true
+pub each_in : (n : ℕ) (f : ℕ → List Record) → ((i : ℕ) → i < n → all_in_range (f i) ≡ true) → all_in_range (each_below n f) ≡ true
 unfolding all_in_range
 each_in zero f g = refl
-each_in (suc n) f g = append_in (eachBelow n f) (f n) (each_in n f (λ i l. g i (omega arith))) (g n (omega arith))
+each_in (suc n) f g = append_in (each_below n f) (f n) (each_in n f (λ i l. g i (omega arith))) (g n (omega arith))
 
 -- ---- each kind, at a clock not past its end
 

@@ -27,7 +27,7 @@ use Rattle.model.specs.Ticks.{last_clock, aged, due_pulse, releases, timed}
 use Rattle.model.specs.Machine.{Call, Call.byte, Call.tick, step, run}
 use Rattle.model.specs.Good.{all_good}
 use Rattle.model.proofs.Tests.{each, either_way}
-use Rattle.model.proofs.Below.{each_below}
+use Rattle.model.proofs.Below.{each_below_lem}
 use Rattle.model.proofs.Accepted.{accepted}
 use Rattle.model.proofs.Cases.{carry_cases, timed_cases, tick_cases}
 use Rattle.demands.specs.FreshBox.{trace}
@@ -73,7 +73,7 @@ module _ (clock : ℕ) (h : clock ≤ last_clock) where
   unfolding due all_good
   due_in r g i n =
       let x : Setting = get_or r.settings i no_setting in
-      let good : good_setting x ≡ true = each_below 8 (λ i. good_setting (get_or r.settings i no_setting)) g i n in
+      let good : good_setting x ≡ true = each_below_lem 8 (λ i. good_setting (get_or r.settings i no_setting)) g i n in
       pulse_if clock h (due r i) i x.width x.current n (both (leb x.mode 2) (good_pulse x.width x.current) good).1
       (λ e.
       each (in_set r.list.stim i)

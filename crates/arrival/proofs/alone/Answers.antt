@@ -1,7 +1,7 @@
 use mathlib.Core.Bool.{true, false, cond}
 use mathlib.Core.Path.{◌≡◌, ◌∙◌}
 use mathlib.Core.List.{[]}
-use Rattle.model.specs.State.{byState}
+use Rattle.model.specs.State.{by_state}
 use Rattle.model.specs.Arrival.{taken}
 use Rattle.record.specs.Box.{state_of}
 use Rattle.arrival.proofs.Arrivals.{settled_as, tripped_answer, untripped_answer}
@@ -13,7 +13,7 @@ unfolding taken state_of
 returns c =
     let x = c.args.b in
     let told = c.if-b-ge-TRIPPED in
-    let answer : told.answer ≡ cond (byState x.core.state false false true) 10 6 = elim told.branch [
+    let answer : told.answer ≡ cond (by_state x.core.state false false true) 10 6 = elim told.branch [
       | then-b-ge-TRIPPED w ↦ tripped_answer x.core.state told.answer w.if-b-ge-TRIPPED.true w.answer-is
       | else-b-ge-TRIPPED w ↦ untripped_answer x.core.state told.answer w.if-b-ge-TRIPPED.false w.answer-is
     ] in

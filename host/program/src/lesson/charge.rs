@@ -31,7 +31,7 @@ Report the net charge of a pulse as a signed sum in half milliamp microseconds o
 points, and refuse to write one whose net charge is not zero, also with 4.",
     proved: &[
         Theorem {
-            name: "no-charge",
+            name: "no_charge",
             file: "crates/demands3/proofs/NoCharge.antt",
             says: "whatever is written has no net charge; a pulse that has one is answered 4.",
         },
@@ -41,7 +41,7 @@ points, and refuse to write one whose net charge is not zero, also with 4.",
             says: "32 bits hold every net charge, so that none becomes zero by overflow.",
         },
         Theorem {
-            name: "order-free",
+            name: "order_free",
             file: "crates/charge/proofs/Theorems.antt",
             says: "the same points in another order have the same net charge.",
         },

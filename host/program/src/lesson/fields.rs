@@ -36,7 +36,7 @@ A record is known by its kind byte alone.",
             says: "a readout is the longest fitting tail of the machine's records, so laid out.",
         },
         Theorem {
-            name: "split-is-row",
+            name: "split_is_row",
             file: "crates/trace/proofs/Theorems.antt",
             says: "bytes pass for a trace exactly if they are a row of whole known records.",
         },

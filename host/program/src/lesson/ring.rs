@@ -37,12 +37,12 @@ first drops old ones until it fits, moving the start past them; other bytes stay
             says: "a byte or a tick, whatever it is lent, changes nothing outside the ring's part.",
         },
         Theorem {
-            name: "calls-keep",
+            name: "calls_keep",
             file: "crates/trace/proofs/Theorems.antt",
             says: "a push changes no byte but those of its record, and these lie in the part.",
         },
         Theorem {
-            name: "ring-holds-tail",
+            name: "ring_holds_tail",
             file: "crates/trace/proofs/Theorems.antt",
             says: "the ring holds the longest tail of all records so far that fits.",
         },

@@ -183,10 +183,10 @@ fn the_rules() {
 #[test]
 fn the_theorems() {
     let wanted = [
-        ("ring", ["demand1", "calls-keep", "ring-holds-tail"]),
-        ("fields", ["demand2", "split-is-row", "claim"]),
-        ("limits", ["demand3", "always-zeros", "quiet-at-rest"]),
-        ("charge", ["no-charge", "bounded", "order-free"]),
+        ("ring", ["demand1", "calls_keep", "ring_holds_tail"]),
+        ("fields", ["demand2", "split_is_row", "claim"]),
+        ("limits", ["demand3", "always_zeros", "quiet_at_rest"]),
+        ("charge", ["no_charge", "bounded", "order_free"]),
     ];
     for (lesson_name, theorems) in wanted {
         let printed = lesson(lesson_name);
