@@ -80,8 +80,10 @@ struct Guest {
 impl Guest {
     fn new() -> Guest {
         let folder = tempfile::tempdir().expect("the system has a folder for this");
-        let program = env!("CARGO_BIN_EXE_yarrowbell");
-        fs::copy(program, folder.path().join("yarrowbell")).expect("it can be written");
+        // A copy that this process wrote might still be open, in a process that another test begins.
+        let mut copied = Command::new("cp");
+        copied.args([env!("CARGO_BIN_EXE_yarrowbell"), "yarrowbell"]).current_dir(folder.path());
+        assert_eq!(run::command(&mut copied, b"").status, 0);
         fs::write(folder.path().join("s"), "0 C0\n").expect("it can be written");
         let is_other = fs::metadata(folder.path()).expect("it is there").uid() == 0;
         Guest { folder, is_other }
