@@ -6,13 +6,12 @@ use Rattle.commands.specs.Commands.{no_setting}
 use Rattle.model.specs.Timing.{largest_mode}
 use Rattle.model.proofs.Turns.{most_turn}
 use Rattle.timing.proofs.largest_mode.Goals as goal
-use Rattle.timing.proofs.largest_mode.Goals.{then-most-x, else-most-x}
 
 pub loop-i-preserved : goal.loop-i-preserved
 loop-i-preserved c =
     let a = c.args in
     let turn = most_turn c.loop-i.i (λ k. (get_or a.settings k no_setting).mode) in
-    elim c.if-most-x.branch [ then-most-x w ↦ omega (arith, turn) | else-most-x w ↦ omega (arith, turn) ]
+    grind (arith, turn)
 
 pub returns : goal.returns
 unfolding largest_mode
