@@ -3,3 +3,4 @@ pub mod Ranges
 pub mod Commands
 pub mod Reply
 pub mod Bytes
+pub mod Refusals

@@ -3,6 +3,7 @@
 
 pub mod answers;
 pub mod idents;
+pub mod refusals;
 pub mod sizes;
 
 ghost use Rattle.std.specs.Prelude.{◌≡◌};
