@@ -7,14 +7,14 @@ ghost use Rattle.decided.specs.ByValue.{by_value};
 ghost use Rattle.effects.specs.Deciding.{late};
 
 use super::{cores, single};
-use commands::{Init, Setting, Single, answers, idents};
+use commands::{Init, Setting, Single, answers, idents, refusals};
 use decided::Decided;
 use model::{Core, Profile};
 
 pub fn on_init(p: Profile, clock: u32, m: Core, v: Init) -> Decided
     ensures { result ≡ by_value (late p clock m (init v)) }
 {
-    let answer = judgement::judge_init(p, v);
+    let answer = refusals::answer(&judgement::judge_init(p, v));
     if answer == answers::DONE {
         return decided::tell(clock, idents::INIT, answer, cores::running(v));
     }
@@ -25,7 +25,7 @@ pub fn on_update(p: Profile, clock: u32, m: Core, entries: [Setting; 8]) -> Deci
     ensures { result ≡ by_value (late p clock m (update 0 entries)) }
 {
     let settings = judgement::place(m.run.list.stim, entries);
-    let answer = judgement::judge_update(p, m, settings);
+    let answer = refusals::answer(&judgement::judge_update(p, m, settings));
     if answer == answers::DONE {
         return decided::tell(clock, idents::UPDATE, answer, cores::wait(m, settings));
     }
@@ -47,7 +47,7 @@ pub fn on_single(p: Profile, clock: u32, m: Core, v: Single) -> Decided
     requires { v.channel < 8 }
     ensures { result ≡ by_value (late p clock m (single v)) }
 {
-    let answer = judgement::judge_single(p, m, v);
+    let answer = refusals::answer(&judgement::judge_single(p, m, v));
     if answer == answers::DONE {
         return accept_single(clock, m, v);
     }

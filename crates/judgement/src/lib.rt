@@ -3,6 +3,7 @@
 
 ghost use Rattle.std.specs.Prelude.{cond, not, ◌≡◌, [], ◌∷◌, ◌+◌, ◌<◌, ◌≤◌, ltb, get_or, set};
 ghost use Rattle.commands.specs.Answers.{◌when◌, first_of};
+ghost use Rattle.commands.specs.Refusals.{answer};
 ghost use Rattle.commands.specs.Commands.{no_setting};
 ghost use Rattle.model.specs.Channels.{silence, placed};
 ghost use Rattle.model.specs.Timing.{t1, init_timing, update_timing};
@@ -10,20 +11,21 @@ ghost use Rattle.model.specs.Profiles.{over_limits};
 ghost use Rattle.model.specs.State.{is_running};
 ghost use Rattle.model.specs.Judgement.{hold_of};
 
-use commands::{Init, Setting, Single, answers};
+use commands::refusals::Refusal;
+use commands::{Init, Setting, Single};
 use model::{Core, Profile};
 
 // An Init: 5; 9.
-pub fn judge_init(p: Profile, v: Init) -> u8
-    ensures { result ≡ first_of (5 when not (init_timing v) ∷ 9 when ltb (t1 v.main) p.shortest ∷ []) }
+pub fn judge_init(p: Profile, v: Init) -> Result<(), Refusal>
+    ensures { answer result ≡ first_of (5 when not (init_timing v) ∷ 9 when ltb (t1 v.main) p.shortest ∷ []) }
 {
-    if timing::init_timing(v) {
-        if timing::main_period(v.main) < p.shortest {
-            return answers::OVER_LIMIT;
-        }
-        return answers::DONE;
+    if !timing::init_timing(v) {
+        return Err(Refusal::Timing);
     }
-    answers::TIMING
+    if timing::main_period(v.main) < p.shortest {
+        return Err(Refusal::OverLimit);
+    }
+    Ok(())
 }
 
 // The next entry for a listed channel, zero for any other.
@@ -63,19 +65,19 @@ pub fn place(stim: u8, entries: [Setting; 8]) -> [Setting; 8]
 }
 
 // An Update that asks for these settings: 6; 5; 9.
-pub fn judge_update(p: Profile, m: Core, settings: [Setting; 8]) -> u8
-    ensures { result ≡ first_of (6 when not (is_running m) ∷ 5 when not (update_timing m.run.list settings) ∷ 9 when over_limits p settings ∷ []) }
+pub fn judge_update(p: Profile, m: Core, settings: [Setting; 8]) -> Result<(), Refusal>
+    ensures { answer result ≡ first_of (6 when not (is_running m) ∷ 5 when not (update_timing m.run.list settings) ∷ 9 when over_limits p settings ∷ []) }
 {
-    if m.state == model::RUNNING {
-        if timing::update_timing(m.run.list, settings) {
-            if limits::over_limits(p, settings) {
-                return answers::OVER_LIMIT;
-            }
-            return answers::DONE;
-        }
-        return answers::TIMING;
+    if m.state != model::RUNNING {
+        return Err(Refusal::NoList);
     }
-    answers::NO_LIST
+    if !timing::update_timing(m.run.list, settings) {
+        return Err(Refusal::Timing);
+    }
+    if limits::over_limits(p, settings) {
+        return Err(Refusal::OverLimit);
+    }
+    Ok(())
 }
 
 // A Single's limits are Update's: its setting on its channel alone.
@@ -106,17 +108,17 @@ fn hold_of(m: Core, channel: u8) -> u8
 }
 
 // A Single: 7; 8; 9.
-pub fn judge_single(p: Profile, m: Core, v: Single) -> u8
-    ensures { result ≡ first_of (7 when is_running m ∷ 8 when ltb 0 (hold_of m v.channel) ∷ 9 when over_limits p (set silence v.channel (record { mode = 0; width = v.width; current = v.current })) ∷ []) }
+pub fn judge_single(p: Profile, m: Core, v: Single) -> Result<(), Refusal>
+    ensures { answer result ≡ first_of (7 when is_running m ∷ 8 when ltb 0 (hold_of m v.channel) ∷ 9 when over_limits p (set silence v.channel (record { mode = 0; width = v.width; current = v.current })) ∷ []) }
 {
     if m.state == model::RUNNING {
-        return answers::LIST_RUNS;
+        return Err(Refusal::ListRuns);
     }
     if 0 < hold_of(m, v.channel) {
-        return answers::IN_HOLD;
+        return Err(Refusal::InHold);
     }
     if limits::over_limits(p, single_settings(v)) {
-        return answers::OVER_LIMIT;
+        return Err(Refusal::OverLimit);
     }
-    answers::DONE
+    Ok(())
 }
