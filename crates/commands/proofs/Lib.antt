@@ -2,3 +2,4 @@ pub mod Tests
 pub mod Entries
 pub mod Fits
 pub mod Order
+pub mod Numbers

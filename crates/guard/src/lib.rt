@@ -8,7 +8,7 @@ ghost use Rattle.calls.specs.Calls.{call_of};
 ghost use Rattle.calls.specs.Readout.{readout_of, readout_bytes};
 
 use calls::Called;
-use commands::answers;
+use commands::{answers, refusals};
 use record::Box;
 use trace::{Part, Readout};
 
@@ -17,7 +17,7 @@ pub fn byte(b: Box, buf: &mut [u8], at: Part, n: u8) -> Called
     ensures { (result ≡ (call_of b buf.old at (byte n)).called) × (buf.new ≡ (call_of b buf.old at (byte n)).buf) }
 {
     let ring = b.ring;
-    let ready = ring::ready(buf, at, ring);
+    let ready = refusals::answer(&ring::ready(buf, at, ring));
     let t = arrival::take_byte(b, ready, n);
     filing::finish(buf, at, t)
 }
@@ -27,7 +27,7 @@ pub fn tick(b: Box, buf: &mut [u8], at: Part) -> Called
     ensures { (result ≡ (call_of b buf.old at tick).called) × (buf.new ≡ (call_of b buf.old at tick).buf) }
 {
     let ring = b.ring;
-    let ready = ring::ready(buf, at, ring);
+    let ready = refusals::answer(&ring::ready(buf, at, ring));
     let t = ticks::take_tick(b, ready);
     filing::finish(buf, at, t)
 }

@@ -12,13 +12,14 @@
 ghost use Rattle.std.specs.Prelude.{◌≡◌, length};
 ghost use Rattle.trace.specs.Ring.{ready_answer, pushed, pushed_buf, read_out, read_bytes};
 
+use commands::refusals;
 use trace::{Part, Pushed, Readout, Record, Ring};
 
 #[unsafe(no_mangle)]
 pub extern "C" fn yarrowbell_ring_ready(buf: &[u8], at: Part, ring: Ring) -> u8
     ensures { result ≡ ready_answer buf.now at ring }
 {
-    ring::ready(buf, at, ring)
+    refusals::answer(&ring::ready(buf, at, ring))
 }
 
 #[unsafe(no_mangle)]

@@ -1,4 +1,5 @@
+use Rattle.std.proofs.Common.{◌∙◌}
 use Rattle.ring_exports.proofs.yarrowbell_ring_ready.Goals as goal
 
 pub returns : goal.returns
-returns c = c.ready.ensures
+returns c = c.answer.ensures ∙ c.ready.ensures
