@@ -1,36 +1,51 @@
--- Laws of the entries of an Update: what one turn of a loop over them does, its end, and zeros behind them. Assumes nothing.
+-- Laws of the entries of an Update: good one by one, what one turn of a loop over them does, its end, and zeros behind them. Assumes nothing.
 use Prim.Native.Nat.{ℕ, zero, suc, ◌+◌, ◌-◌, ◌≤◌, ◌<◌}
-use mathlib.Core.Bool.{Bool, true, ◌&&◌, and_assoc}
+use mathlib.Core.Bool.{Bool, true, false, ◌&&◌, and_assoc}
 use mathlib.Core.Path.{◌≡◌, refl, sym, ap, ◌∙◌}
 use mathlib.Core.List.{List, [], ◌∷◌, ◌++◌}
 use native.Mathlib.Omega.{arith}
-use native.Mathlib.Numerals.{add-one}
-use native.Mathlib.Nat.{zero-add, sub-zero, suc-sub-suc}
+use native.Mathlib.Numerals.{add-one, sub-one}
+use native.Mathlib.Nat.{zero-add}
 use lib.Dec.{ltb, leb-suc-suc}
-use lib.ListN.{length, get_or, take, drop, replicate, drop_of_length-le}
+use lib.ListN.{length, get_or, take, drop, replicate}
 use lib.Seq.{drop-cons}
 use borrow.Author.Tests.{lt-ltb, le-ltb}
+use Rattle.std.specs.Prelude.{◌↔◌, IsTrue, EachIndex}
 use Rattle.commands.specs.declared.Setting.{Setting}
 use Rattle.commands.specs.Commands.{no_setting, setting_sum, sum_all, good_setting, good_entry, good_entries}
+use Rattle.commands.proofs.Tests.{both}
 
--- entry i is listed where entries are left of the count
-listed_left : (i count : ℕ) → ltb 0 (count - i) ≡ ltb i count
-listed_left zero count = ap (ltb 0) (sub-zero count)
-listed_left (suc i) zero = le-ltb 0 (0 - suc i) (omega arith) ∙ sym (le-ltb (suc i) 0 (omega arith))
-listed_left (suc i) (suc count) = rw suc-sub-suc (listed_left i count ∙ sym (leb-suc-suc (suc i) count))
+-- behind the first entry one listed channel less is left
+later_listed : (i count : ℕ) → ltb i (count - 1) ≡ ltb (suc i) count
+later_listed i zero = le-ltb i (zero - 1) (omega arith) ∙ sym (le-ltb (suc i) 0 (omega arith))
+later_listed i (suc count) = rw sub-one (sym (leb-suc-suc (suc i) count))
 
-module _ (entries : List Setting) (i : ℕ) where
-  pub good_turn : (count : ℕ) → i < length entries
-      → good_entries (drop i entries) (count - i)
-      ≡ good_entry (get_or entries i no_setting) (ltb i count) && good_entries (drop (i + 1) entries) (count - (i + 1))
-  unfolding good_entries
-  good_turn count h =
-      let e : count - (i + 1) ≡ count - i - 1 = omega arith in
-      rw (drop-cons entries i no_setting h, e, listed_left i count, add-one i)
+-- each entry is good, by its place
+abbrev pub EachGood : List Setting → ℕ → Type 0
+EachGood entries count = EachIndex entries (λ i. IsTrue (good_entry (get_or entries i no_setting) (ltb i count)))
 
-  pub good_end : (count : ℕ) → length entries ≤ i → good_entries (drop i entries) (count - i) ≡ true
-  unfolding good_entries
-  good_end count h = rw (drop_of_length-le entries h)
+each_good : (entries : List Setting) (count : ℕ) → EachGood entries count → good_entries entries count ≡ true
+unfolding good_entries
+each_good [] count h = refl
+each_good (v ∷ vs) count h =
+    let later : EachGood vs (count - 1) = λ i k. rw (later_listed i count) (h (suc i) (omega arith)) in
+    rw (h 0 (omega arith), each_good vs (count - 1) later)
+
+good_each : (entries : List Setting) (count : ℕ) → good_entries entries count ≡ true → EachGood entries count
+unfolding good_entries
+good_each [] count e i h = absurd (omega arith)
+good_each (v ∷ vs) count e zero h = (both (good_entry v (ltb 0 count)) (good_entries vs (count - 1)) e).0
+good_each (v ∷ vs) count e (suc i) h =
+    rw (← later_listed i count) (good_each vs (count - 1) (both (good_entry v (ltb 0 count)) (good_entries vs (count - 1)) e).1 i (omega arith))
+
+-- a test that is true exactly if each entry is good
+pub all_good : (entries : List Setting) (count : ℕ) (t : Bool) → (IsTrue t ↔ EachGood entries count) → t ≡ good_entries entries count
+all_good entries count t h = same t (good_entries entries count) (λ e. each_good entries count (h.0 e)) (λ e. h.1 (good_each entries count e))
+  where
+    same : (a b : Bool) → (a ≡ true → b ≡ true) → (b ≡ true → a ≡ true) → a ≡ b
+    same true b f g = sym (f refl)
+    same false true f g = g refl
+    same false false f g = refl
 
 -- ---- the listed entries
 

@@ -4,3 +4,4 @@ pub mod Commands
 pub mod Reply
 pub mod Bytes
 pub mod Refusals
+pub mod Idents

@@ -1,5 +1,6 @@
 -- Document 01, "Numbers the box answers": the number of each refusal, and 0 where a call is carried out.
 use Rattle.std.specs.Prelude.{ℕ, Result, Ok, Err}
+use Rattle.commands.specs.declared.Wrote.{Wrote}
 use Rattle.commands.specs.declared.refusals.Refusal.{Refusal}
 use Rattle.commands.specs.declared.refusals.Refusal.TheVariants.{Unfinished, LowByte, WrongCheck, NotGood, Timing, NoList, ListRuns, InHold, OverLimit, WhileTripped, ProfileNotGood, BoxNotGood, RingOutside, RingUnknown, ClockAtEnd, OutputTooShort, Cut}
 
@@ -25,3 +26,8 @@ number Cut = 17
 abbrev pub answer : {A : Type 0} → Result A Refusal → ℕ
 answer (Ok _) = 0
 answer (Err refusal) = number refusal
+
+-- what a writer reports: its answer and the bytes written, of which a refused one has none
+abbrev pub report : Result ℕ Refusal → Wrote
+report (Ok used) = record { answer = 0; used = used }
+report (Err refusal) = record { answer = number refusal; used = 0 }

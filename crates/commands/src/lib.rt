@@ -10,10 +10,13 @@ ghost use Rattle.std.specs.Prelude.{◌≡◌};
 ghost use Rattle.commands.specs.Ranges.{within, good_pulse, good_count};
 ghost use Rattle.commands.specs.Commands.{Command.init, Command.update, Command.single, is_zero, good_setting, good_entry, good_entries, good};
 ghost use Rattle.commands.specs.Reply.{is_decision, reply};
+ghost use Rattle.commands.specs.Refusals.{report};
+
+use refusals::Refusal;
 
 // What an Init sets: N_Factor, Channel_Stim, Channel_Lf, Group_Time, Main_Time.
 #[repr(C)]
-#[derive(Clone, Copy)]
+#[derive(Clone, Copy, Debug, PartialEq, Eq)]
 pub struct Init {
     pub factor: u8,
     pub stim: u8,
@@ -32,7 +35,7 @@ pub const NO_INIT: Init = Init {
 
 // What an Update sets one channel to.
 #[repr(C)]
-#[derive(Clone, Copy)]
+#[derive(Clone, Copy, Debug, PartialEq, Eq)]
 pub struct Setting {
     pub width: u16,
     pub mode: u8,
@@ -47,7 +50,7 @@ pub const NO_SETTING: Setting = Setting {
 
 // What a Single asks for; its channel is Channel_Number, 0 to 7.
 #[repr(C)]
-#[derive(Clone, Copy)]
+#[derive(Clone, Copy, Debug, PartialEq, Eq)]
 pub struct Single {
     pub width: u16,
     pub channel: u8,
@@ -62,45 +65,50 @@ pub const NO_SINGLE: Single = Single {
 
 // What a writer reports, of frames or of packets: its answer and the bytes written.
 #[repr(C)]
-#[derive(Clone, Copy)]
+#[derive(Clone, Copy, Debug, PartialEq, Eq)]
 pub struct Wrote {
     pub answer: u8,
     pub used: u8,
 }
 
-// ---- good values
+impl From<Result<u8, Refusal>> for Wrote {
+    ghost from_gives = { λ outcome wrote. wrote ≡ report outcome };
 
-fn is_within(low: u16, x: u16, high: u16) -> bool
-    ensures { result ≡ within low x high }
-{
-    (low <= x) & (x <= high)
+    fn from(outcome: Result<u8, Refusal>) -> Self {
+        Wrote {
+            answer: refusals::answer(&outcome),
+            used: outcome.unwrap_or(0),
+        }
+    }
 }
+
+// ---- good values
 
 // The ranges of Width and Current, for Update and Single alike.
 fn good_pulse(width: u16, current: u8) -> bool
     ensures { result ≡ good_pulse width current }
 {
-    ((width == 0) | is_within(10, width, 500)) & (current <= 127)
+    (width == 0 || (10..=500).contains(&width)) && current <= 127
 }
 
 pub fn good_init(v: Init) -> bool
     ensures { result ≡ good (init v) }
 {
-    (v.factor <= 7) & (v.stim != 0) & is_within(3, v.group as u16, 29) & is_within(4, v.main, 2045)
+    v.factor <= 7 && v.stim != 0 && (3..=29).contains(&v.group) && (4..=2045).contains(&v.main)
 }
 
 // A setting's Mode, Width and Current.
 pub fn good_setting(v: Setting) -> bool
     ensures { result ≡ good_setting v }
 {
-    (v.mode <= 2) & good_pulse(v.width, v.current)
+    v.mode <= 2 && good_pulse(v.width, v.current)
 }
 
 // Whether a setting is zero throughout.
 pub fn is_zero(v: Setting) -> bool
     ensures { result ≡ is_zero v }
 {
-    v.mode as u32 + v.width as u32 + v.current as u32 == 0
+    v == NO_SETTING
 }
 
 // A listed entry is good, any other is zero.
@@ -113,34 +121,29 @@ fn good_entry(v: Setting, listed: bool) -> bool
 fn good_entries(entries: [Setting; 8], count: usize) -> bool
     ensures { result ≡ good_entries entries count }
 {
-    let mut i = 0;
-    while i < 8 {
-        if good_entry(entries[i], i < count) {
-            i += 1;
-        } else {
-            return false;
-        }
-    }
-    true
+    entries
+        .iter()
+        .enumerate()
+        .all(|(i, v)| good_entry(*v, i < count))
 }
 
 // The number of listed channels is 1 to 8.
 pub fn good_count(count: usize) -> bool
     ensures { result ≡ good_count count }
 {
-    (1 <= count) & (count <= 8)
+    (1..=8).contains(&count)
 }
 
 pub fn good_update(count: usize, entries: [Setting; 8]) -> bool
     ensures { result ≡ good (update count entries) }
 {
-    good_count(count) & good_entries(entries, count)
+    good_count(count) && good_entries(entries, count)
 }
 
 pub fn good_single(v: Single) -> bool
     ensures { result ≡ good (single v) }
 {
-    (v.channel <= 7) & good_pulse(v.width, v.current)
+    v.channel <= 7 && good_pulse(v.width, v.current)
 }
 
 // ---- the reply
@@ -149,8 +152,7 @@ pub fn good_single(v: Single) -> bool
 pub fn is_decision(answer: u8) -> bool
     ensures { result ≡ is_decision answer }
 {
-    (answer == answers::DONE)
-        | ((answers::WRONG_CHECK <= answer) & (answer <= answers::WHILE_TRIPPED))
+    answer == answers::DONE || (answers::WRONG_CHECK..=answers::WHILE_TRIPPED).contains(&answer)
 }
 
 // The reply byte to a command of this Ident, of which the two lowest bits count; 0 where the answer decides none.
@@ -158,10 +160,8 @@ pub fn reply_to(ident: u8, answer: u8) -> u8
     ensures { result ≡ reply ident answer }
 {
     if is_decision(answer) {
-        if answer == answers::DONE {
-            return ident % 4 * 64 + 1;
-        }
-        return ident % 4 * 64;
+        ident % 4 * 64 + u8::from(answer == answers::DONE)
+    } else {
+        0
     }
-    0
 }
