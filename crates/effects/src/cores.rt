@@ -54,7 +54,7 @@ pub fn hold(m: Core, channel: u8) -> Core
     let mut run = m.run;
     run.watch = 0;
     n.run = run;
-    if channel < model::MODULE {
+    if channel < model::CHANNELS {
         n.holda = model::HOLD;
         return n;
     }

@@ -1,4 +1,5 @@
 pub mod Below
+pub mod Modules
 pub mod Channels
 pub mod Timing
 pub mod Slots

@@ -1,5 +1,5 @@
 -- Document 01, "The machine": which channels pulse at a position.
-use Rattle.std.specs.Prelude.{ℕ, zero, suc, ◌+◌, ◌*◌, ◌-◌, ◌%◌, Bool, cond, not, ◌&&◌, ◌||◌, ltb, eqb, get_or}
+use Rattle.std.specs.Prelude.{ℕ, zero, suc, ◌+◌, ◌*◌, ◌-◌, ◌%◌, Bool, cond, not, ◌&&◌, ◌||◌, Option, Some, None, ltb, eqb, get_or}
 use Rattle.commands.specs.declared.Init.{Init}
 use Rattle.commands.specs.declared.Setting.{Setting}
 use Rattle.commands.specs.Commands.{no_setting}
@@ -37,3 +37,7 @@ due r i =
 unfoldable pub first_due : Run → ℕ → ℕ → ℕ
 first_due r i zero = 8
 first_due r i (suc n) = cond (due r i) i (first_due r (suc i) n)
+
+-- what 8 stands for, said by type
+abbrev pub if_any : ℕ → Option ℕ
+if_any i = cond (ltb i 8) (Some i) None

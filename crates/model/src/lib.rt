@@ -1,6 +1,10 @@
 // Document 01's machine, "Profile" and "The machine": its numbers. Its rules stand in specs/ as definitions, and what follows from
-// them in proofs/. No function stands here. The fields' order and width leave no byte between them, as the structs cross the boundary.
+// them in proofs/. The only functions here are those of a module. The fields' order and width leave no byte between them, as the
+// structs cross the boundary.
 #![tactic(auto)]
+
+ghost use Rattle.std.specs.Prelude.{◌≡◌};
+ghost use Rattle.model.specs.Modules.{module_of, first, offset};
 
 use commands::{Init, Setting};
 
@@ -49,8 +53,48 @@ pub const RUNNING: u16 = 1;
 
 pub const TRIPPED: u16 = 2;
 
-// The channels of a module: A has 1 to 4, B has 5 to 8.
-pub const MODULE: u8 = 4;
+// How many channels a module has.
+pub const CHANNELS: u8 = 4;
+
+// A has channels 1 to 4, B has 5 to 8.
+#[derive(Clone, Copy, PartialEq, Eq)]
+pub enum Module {
+    A,
+    B,
+}
+
+impl Module {
+    // The module of a channel, counted from 0.
+    pub fn of(channel: u8) -> Module
+        ensures { result ≡ module_of channel }
+    {
+        if channel < CHANNELS {
+            Module::A
+        } else {
+            Module::B
+        }
+    }
+
+    // Its first channel, counted from 0.
+    pub fn first(self) -> usize
+        ensures { result ≡ first self }
+    {
+        match self {
+            Module::A => 0,
+            Module::B => CHANNELS as usize,
+        }
+    }
+
+    // How many tenths of a millisecond its slots begin later than A's.
+    pub fn offset(self) -> u32
+        ensures { result ≡ offset self }
+    {
+        match self {
+            Module::A => 0,
+            Module::B => 6,
+        }
+    }
+}
 
 // The hold that a command puts on a module.
 pub const HOLD: u8 = 15;
