@@ -13,7 +13,7 @@ ghost use Rattle.model.specs.Judgement.{hold_of};
 
 use commands::refusals::Refusal;
 use commands::{Init, Setting, Single};
-use model::{Core, Profile};
+use model::{Core, Module, Profile};
 
 // An Init: 5; 9.
 pub fn judge_init(p: Profile, v: Init) -> Result<(), Refusal>
@@ -100,10 +100,9 @@ fn single_settings(v: Single) -> [Setting; 8]
 fn hold_of(m: Core, channel: u8) -> u8
     ensures { result ≡ hold_of m channel }
 {
-    if channel < model::MODULE {
-        m.holda
-    } else {
-        m.holdb
+    match Module::of(channel) {
+        Module::A => m.holda,
+        Module::B => m.holdb,
     }
 }
 
