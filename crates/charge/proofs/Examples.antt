@@ -1,10 +1,10 @@
 -- Net charges worked out. Assumes nothing.
 use mathlib.Core.Path.{◌≡◌, refl}
-use mathlib.Core.Bool.{true}
 use mathlib.Core.List.{List, [], ◌∷◌, ◌++◌}
 use Prim.Native.Nat.{ℕ, ◌-◌}
 use lib.IntN.{pos}
 use lib.ListN.{replicate}
+use Rattle.std.specs.Prelude.{Some}
 use Rattle.charge.specs.declared.Point.{Point}
 use Rattle.charge.specs.declared.Pulse.{Pulse}
 use Rattle.charge.specs.Charge.{of_paper, within_limit, point_good, is_zero_point, all, pulse_good, part_of, net_of, weighed}
@@ -16,13 +16,13 @@ pulse number points = record { number = number; points = points ++ replicate (16
 
 -- 250 µs 20 mA, 100 µs 0 mA, 250 µs -20 mA
 balanced : weighed (pulse 3 (record { duration = 250; code = 340 } ∷ record { duration = 100; code = 300 } ∷ record { duration = 250; code = 260 } ∷ []))
-    ≡ record { good = true; charge = pos 0 }
+    ≡ Some (pos 0)
 unfolding pulse weighed pulse_good all point_good of_paper within_limit is_zero_point net_of part_of
 balanced = refl
 
 -- the same currents, the second for a shorter time: 50 µs at 40 half milliamps are left
 looks_balanced : weighed (pulse 2 (record { duration = 250; code = 340 } ∷ record { duration = 200; code = 260 } ∷ []))
-    ≡ record { good = true; charge = pos 2000 }
+    ≡ Some (pos 2000)
 unfolding pulse weighed pulse_good all point_good of_paper within_limit is_zero_point net_of part_of
 looks_balanced = refl
 

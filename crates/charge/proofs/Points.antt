@@ -1,16 +1,17 @@
 -- Rows of points: tests that all pass, and sums, one point after the other. Assumes nothing.
 use mathlib.Core.Path.{◌≡◌, refl, sym, ap, ap₂, ◌∙◌}
-use mathlib.Core.Bool.{Bool, true, false, cond, ◌&&◌, and_assoc, and-false}
+use mathlib.Core.Bool.{Bool, true, false, ◌&&◌, and-false}
 use mathlib.Core.List.{List, [], ◌∷◌, ◌++◌}
-use Prim.Native.Nat.{ℕ, zero, suc, ◌+◌, ◌-◌, ◌*◌, ◌≤◌, ◌<◌}
+use Prim.Native.Nat.{ℕ, zero, suc, ◌+◌, ◌*◌, ◌≤◌, ◌<◌}
 use native.Mathlib.Nat.{mul-le-mul, le_of_suc-le-suc, not-suc-le-zero}
 use native.Mathlib.Omega.{arith}
 use native.Mathlib.Numerals.{add-one}
-use lib.ListN.{length, take, drop, get_or, drop_of_length-le}
-use lib.Seq.{take-suc, take-nil, drop-nil, drop-cons}
-use lib.Dec.{leb, ltb, eqb}
+use lib.ListN.{length, take, drop, get_or}
+use lib.Seq.{take-suc, take-nil}
+use lib.Dec.{leb, eqb}
+use Rattle.std.specs.List.{list_all}
 use lib.IntN.{ℤ, pos, nat_abs, ◌+ℤ◌, ◌-ℤ◌, +ℤ_assoc, +ℤ_idl, +ℤ_idr}
-use borrow.Author.Tests.{leb-true, ltb-true, ltb-false, le-leb, eqb-true}
+use borrow.Author.Tests.{leb-true, le-leb, eqb-true}
 use Rattle.commands.proofs.Tests.{both}
 use Rattle.charge.specs.declared.Point.{Point}
 use Rattle.charge.specs.Charge.{of_paper, within_limit, point_good, all, is_zero_point, part_of, net_of}
@@ -65,6 +66,11 @@ module _ (p : Point) (e : of_paper p ≡ true) where
 
 -- ---- a row of tests
 
+pub all_is : (test : Point → Bool) (l : List Point) → list_all test l ≡ all test l
+unfolding all
+all_is test [] = refl
+all_is test (p ∷ l) = ap (λ (b : Bool). test p && b) (all_is test l)
+
 module _ (test : Point → Bool) where
   pub all_at : (l : List Point) (i : ℕ) (d : Point) → i < length l → all test l ≡ true → test (get_or l i d) ≡ true
   unfolding all
@@ -90,29 +96,6 @@ all_paper (suc n) [] g z = refl
 all_paper (suc n) (p ∷ l) g z =
     let t = both (point_good p) (all point_good (take n l)) g in
     ap₂ (λ (a b : Bool). a && b) (paper_of_good p t.0) (all_paper n l t.1 z)
-
--- the first n of the points are good, those past them zero
-abbrev pub places : ℕ → List Point → Bool
-places n l = all point_good (take n l) && all is_zero_point (drop n l)
-
-pub places_turn : (n : ℕ) (l : List Point) (i : ℕ) (d : Point) → i < length l
-    → places (n - i) (drop i l) ≡ cond (ltb i n) (point_good (get_or l i d)) (is_zero_point (get_or l i d)) && places (n - (i + 1)) (drop (i + 1) l)
-unfolding all
-places_turn n l i d h = by (ltb i n) refl
-  where
-    by : (t : Bool) → ltb i n ≡ t
-        → places (n - i) (drop i l) ≡ cond t (point_good (get_or l i d)) (is_zero_point (get_or l i d)) && places (n - (i + 1)) (drop (i + 1) l)
-    by true e =
-        let f : n - i ≡ suc (n - (i + 1)) = omega (arith, ltb-true i n e) in
-        rw (f, drop-cons l i d h, add-one i) (and_assoc (point_good (get_or l i d)) _ _)
-    by false e =
-        let f : n - i ≡ 0 = omega (arith, ltb-false i n e) in
-        let g : n - (i + 1) ≡ 0 = omega arith in
-        rw (g, f, drop-cons l i d h, add-one i)
-
-pub places_end : (n : ℕ) (l : List Point) (i : ℕ) → length l ≤ i → places (n - i) (drop i l) ≡ true
-unfolding all
-places_end n l i h = rw (drop_of_length-le l h, take-nil (n - i), drop-nil (n - i))
 
 -- ---- sums
 

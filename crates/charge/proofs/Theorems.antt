@@ -61,3 +61,13 @@ module _ (p : Pulse) (e : pulse_good p ≡ true) where
   -- the sum over all sixteen is that over the pulse's points
   pub all_net : net_of p.points ≡ charge_of p
   all_net = net_past p.number p.points (good_pulse_lem p e).zero
+
+-- what the sum over a good pulse's points asks
+pub few_points : (p : Pulse) → pulse_good p ≡ true → p.number ≤ 16
+few_points p e = (good_pulse_lem p e).few
+
+pub length_points : (p : Pulse) → pulse_good p ≡ true → length (points_of p) ≤ 16
+length_points p e = rw length-take (omega (arith, few_points p e))
+
+pub paper_points : (p : Pulse) → pulse_good p ≡ true → all of_paper (points_of p) ≡ true
+paper_points p e = all_take of_paper p.number p.points (of_paper_lem p e)

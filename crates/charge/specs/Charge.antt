@@ -1,8 +1,7 @@
 -- The net charge of a pulse (request 13): "a signed sum in half milliamp microseconds over its 1 to 16 points".
-use Rattle.std.specs.Prelude.{List, [], ◌∷◌, Bool, true, false, cond, ◌&&◌, leb, eqb, ℤ, pos, negsuc, ◌+ℤ◌, ◌-ℤ◌, ◌*ℤ◌, take, drop}
+use Rattle.std.specs.Prelude.{List, [], ◌∷◌, Bool, true, false, cond, ◌&&◌, leb, eqb, ℤ, pos, negsuc, ◌+ℤ◌, ◌-ℤ◌, ◌*ℤ◌, take, drop, Option, Some, None}
 use Rattle.charge.specs.declared.Point.{Point}
 use Rattle.charge.specs.declared.Pulse.{Pulse}
-use Rattle.charge.specs.declared.Weighed.{Weighed}
 
 -- ---- good points
 
@@ -50,8 +49,8 @@ is_zero (pos n) = eqb n 0
 is_zero (negsuc n) = false
 
 -- of a point or a pulse that is not good no charge is told
-unfoldable pub weighed_point : Point → Weighed
-weighed_point p = record { good = point_good p; charge = cond (point_good p) (part_of p) (pos 0) }
+unfoldable pub weighed_point : Point → Option ℤ
+weighed_point p = cond (point_good p) (Some (part_of p)) None
 
-unfoldable pub weighed : Pulse → Weighed
-weighed p = record { good = pulse_good p; charge = cond (pulse_good p) (charge_of p) (pos 0) }
+unfoldable pub weighed : Pulse → Option ℤ
+weighed p = cond (pulse_good p) (Some (charge_of p)) None

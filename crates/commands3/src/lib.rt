@@ -4,9 +4,9 @@
 pub mod numbers;
 
 ghost use Rattle.std.specs.Prelude.{◌≡◌};
-ghost use Rattle.commands3.specs.Commands.{number_of, good_result, good_electrode};
+ghost use Rattle.commands3.specs.Commands.{number_of, good_result, good_electrode, alone};
 
-use charge::{Point, Pulse};
+use charge::{NO_POINT, Pulse};
 
 #[derive(Clone, Copy)]
 pub enum Command {
@@ -32,31 +32,30 @@ pub fn number(c: Command) -> u16
     ensures { result ≡ number_of c }
 {
     match c {
-        Command::LlInit { voltage: _ } => numbers::LL_INIT,
-        Command::LlInitAck { result: _ } => numbers::LL_INIT_ACK,
-        Command::LlChannelConfig {
-            execution: _,
-            channel: _,
-        } => numbers::LL_CHANNEL_CONFIG,
-        Command::LlChannelConfigAck {
-            result: _,
-            electrode: _,
-        } => numbers::LL_CHANNEL_CONFIG_ACK,
+        Command::LlInit { .. } => numbers::LL_INIT,
+        Command::LlInitAck { .. } => numbers::LL_INIT_ACK,
+        Command::LlChannelConfig { .. } => numbers::LL_CHANNEL_CONFIG,
+        Command::LlChannelConfigAck { .. } => numbers::LL_CHANNEL_CONFIG_ACK,
         Command::LlStop => numbers::LL_STOP,
-        Command::LlStopAck { result: _ } => numbers::LL_STOP_ACK,
+        Command::LlStopAck { .. } => numbers::LL_STOP_ACK,
         Command::Other { number } => number,
     }
 }
 
-const ZERO: Point = Point {
-    duration: 0,
-    code: 0,
-};
-
 pub const NO_PULSE: Pulse = Pulse {
     number: 0,
-    points: [ZERO; 16],
+    points: [NO_POINT; 16],
 };
+
+// A command without points.
+pub fn alone(command: Command) -> Message
+    ensures { result ≡ alone command }
+{
+    Message {
+        command,
+        pulse: NO_PULSE,
+    }
+}
 
 // ---- good values of acknowledgements
 
@@ -64,12 +63,12 @@ pub const NO_PULSE: Pulse = Pulse {
 pub fn good_result(res: u8) -> bool
     ensures { result ≡ good_result res }
 {
-    (res == 0) | (res == 1) | (res == 2) | (res == 4) | (res == 7) | (res == 10) | (res == 11)
+    matches!(res, 0 | 1 | 2 | 4 | 7 | 10 | 11)
 }
 
 // A channel where the result is an electrode error, any byte else.
 pub fn good_electrode(res: u8, electrode: u8) -> bool
     ensures { result ≡ good_electrode res electrode }
 {
-    if res == 10 { electrode <= 3 } else { true }
+    res != 10 || electrode <= 3
 }
