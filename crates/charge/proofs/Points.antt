@@ -10,11 +10,12 @@ use lib.ListN.{length, take, drop, get_or}
 use lib.Seq.{take-suc, take-nil}
 use lib.Dec.{leb, eqb}
 use Rattle.std.specs.List.{list_all}
+use Rattle.std.specs.Prelude.{cond, Some, None}
 use lib.IntN.{ℤ, pos, nat_abs, ◌+ℤ◌, ◌-ℤ◌, +ℤ_assoc, +ℤ_idl, +ℤ_idr}
 use borrow.Author.Tests.{leb-true, le-leb, eqb-true}
 use Rattle.commands.proofs.Tests.{both}
 use Rattle.charge.specs.declared.Point.{Point}
-use Rattle.charge.specs.Charge.{of_paper, within_limit, point_good, all, is_zero_point, part_of, net_of}
+use Rattle.charge.specs.Charge.{of_paper, within_limit, point_good, all, is_zero_point, part_of, net_of, weighed_point}
 use Rattle.charge.proofs.Sizes.{abs_sub, abs_add, abs_times}
 
 -- a test that another one makes sure of need not be asked
@@ -63,6 +64,23 @@ module _ (p : Point) (e : of_paper p ≡ true) where
   pub part_small : nat_abs (part_of p) ≤ 1228500
   unfolding part_of
   part_small = rw abs_times (mul-le-mul paper_duration code_small)
+
+-- of a good point alone a part is told
+pub weighed_good : (p : Point) (z : ℤ) → Some z ≡ weighed_point p → (point_good p ≡ true) × (z ≡ part_of p)
+unfolding weighed_point
+weighed_good p z e = by (point_good p) refl e
+  where
+    by : (t : Bool) → point_good p ≡ t → Some z ≡ cond t (Some (part_of p)) None → (point_good p ≡ true) × (z ≡ part_of p)
+    by true f e = (f, cc)
+    by false f e = cc
+
+pub weighed_bad : (p : Point) → None ≡ weighed_point p → point_good p ≡ false
+unfolding weighed_point
+weighed_bad p e = by (point_good p) refl e
+  where
+    by : (t : Bool) → point_good p ≡ t → None ≡ cond t (Some (part_of p)) None → point_good p ≡ false
+    by true f e = cc
+    by false f e = f
 
 -- ---- a row of tests
 

@@ -1,8 +1,8 @@
 -- The data of each number: what is right of it, in the words of the code. Assumes nothing.
-use Prim.Native.Nat.{ℕ, zero, suc, ◌+◌, ◌/◌, ◌%◌, ◌≤◌, ◌<◌}
+use Prim.Native.Nat.{ℕ, zero, suc, ◌+◌, ◌*◌, ◌/◌, ◌%◌, ◌≤◌, ◌<◌}
 use mathlib.Core.Path.{◌≡◌, refl, sym, ap, ◌∙◌}
-use mathlib.Core.Bool.{Bool, true, false, ◌&&◌, and-true}
-use mathlib.Core.List.{List}
+use mathlib.Core.Bool.{Bool, true, false, cond, ◌&&◌, and-true}
+use mathlib.Core.List.{List, [], ◌∷◌}
 use native.Mathlib.Omega.{arith}
 use lib.Dec.{eqb, leb, eqb-zero-suc, eqb-suc-zero, eqb-suc-suc}
 use lib.ListN.{length, get_or, drop, take}
@@ -19,7 +19,8 @@ use Rattle.commands3.proofs.Points.{length_bytes, length_points}
 use Rattle.decode3.specs.declared.Decoded.{Decoded}
 use Rattle.points3.specs.declared.PulseRead.{PulseRead}
 use Rattle.points3.specs.Pulses.{size_of, pulse_right, pulse_read}
-use Rattle.decode3.specs.Decoded.{not_taken, decoded}
+use Rattle.std.specs.Prelude.{Some, None, option_map}
+use Rattle.decode3.specs.Decoded.{decoded}
 use Rattle.decode3.specs.Parts.{told, data_decoded}
 
 -- ---- commands without points
@@ -73,26 +74,30 @@ config_right d b =
     turned (length (data_of (config_in d))) (length d) ∙ ap (eqb (length d)) (config_size d) in
     rw (size, le-leb (get_or d 0 0 / 128) 1 (omega arith), le-leb (get_or d 0 0 / 32 % 4) 3 (omega arith))
 
-module _ (packet : ℕ) (d : List ℕ) where
-  -- what is told of a pulse that is read
-  abbrev told_of : PulseRead → Decoded
-  told_of read = told read.right packet (record { command = (config_in d).command; pulse = read.pulse }) read.charge
+-- what is told of a pulse that is read
+abbrev pub told_of : ℕ → List ℕ → PulseRead → Decoded
+told_of packet d read = record { packet = packet; message = record { command = (config_in d).command; pulse = read.pulse }; charge = read.charge }
 
-  by_test : (t : Bool) → pulse_right d ≡ t → get_or d 0 0 < 256 → told_of (pulse_read d) ≡ data_decoded packet 2 d
-  unfolding pulse_read data_decoded message_of told
-  by_test true e b = rw (e, sym (config_right d b) ∙ e)
-  by_test false e b = rw (e, sym (config_right d b) ∙ e)
-
-  pub config_decoded : (first : ℕ) → first ≡ get_or d 0 0 → first < 256 → (read : PulseRead) → read ≡ pulse_read d → (charge : ℤ) → charge ≡ read.charge
-      → told read.right packet (record { command = LlChannelConfig (first / 128) (first / 32 % 4); pulse = read.pulse }) charge ≡ data_decoded packet 2 d
-  config_decoded first e b read r charge z = rw (z, e) (ap told_of r ∙ by_test (pulse_right d) refl (rw e at b))
+pub config_decoded : (packet : ℕ) (d : List ℕ) → get_or d 0 0 < 256 → option_map (told_of packet d) (pulse_read d) ≡ data_decoded packet 2 d
+unfolding pulse_read data_decoded message_of told
+config_decoded packet d b = rw (sym (config_right d b)) (by (pulse_right d) _ (told_of packet d))
+  where
+    by : (t : Bool) (q : PulseRead) (f : PulseRead → Decoded) → option_map f (cond t (Some q) None) ≡ cond t (Some (f q)) None
+    by true q f = refl
+    by false q f = refl
 
 -- ---- packet number and command number
 
-pub too_short : (content : List ℕ) → length content < 2 → not_taken ≡ decoded content
+pub too_short : (content : List ℕ) → length content < 2 → None ≡ decoded content
 unfolding decoded
 too_short content h = rw (lt-leb 2 (length content) h)
 
 pub long_enough : (content : List ℕ) → 2 ≤ length content → data_decoded (packet_in content) (head_in content % 1024) (drop 2 content) ≡ decoded content
 unfolding decoded data_decoded told
 long_enough content h = rw (le-leb 2 (length content) h)
+
+-- the first two bytes alone tell the numbers
+pub head_of : (content : List ℕ) → 2 ≤ length content → get_or (take 2 content) 0 0 * 256 + get_or (take 2 content) 1 0 ≡ head_in content
+head_of [] h = absurd (omega arith)
+head_of (a ∷ []) h = absurd (omega arith)
+head_of (a ∷ b ∷ l) h = refl

@@ -1,18 +1,19 @@
 -- The pulse of a channel config is good, and has its net charge, as its points tell one by one. Assumes nothing.
 use Prim.Native.Nat.{ℕ, zero, suc, ◌+◌, ◌/◌, ◌%◌, ◌≤◌}
 use mathlib.Core.Path.{◌≡◌, refl, sym, ap, ◌∙◌}
-use mathlib.Core.Bool.{Bool, true, false, ◌&&◌, and-true, and_assoc}
+use mathlib.Core.Bool.{Bool, true, false, cond, ◌&&◌, and-true, and-false, and_assoc}
 use mathlib.Core.List.{List}
 use native.Mathlib.Omega.{arith}
 use lib.Dec.{eqb}
-use lib.IntN.{ℤ, pos, ◌+ℤ◌}
+use lib.IntN.{ℤ, ◌+ℤ◌}
 use lib.ListN.{length, get_or, take, drop}
 use borrow.Author.Tests.{le-leb, eq-eqb, ne_eqb}
-use Rattle.charge.specs.Charge.{point_good, is_zero_point, all, pulse_good, part_of, weighed_point, net_of, charge_of}
-use Rattle.commands.proofs.Tests.{both}
+use Rattle.charge.specs.Charge.{point_good, is_zero_point, all, pulse_good, part_of, net_of}
 use Rattle.commands3.specs.Points.{word_in, point_in, points_in, points_clear}
-use Rattle.commands3.specs.Commands.{no_pulse, config_in, reserved_clear}
+use Rattle.commands3.specs.Commands.{config_in, reserved_clear}
+use Rattle.std.specs.Prelude.{Option, Some, None, option_map}
 use Rattle.points3.specs.declared.PointsRead.{PointsRead}
+use Rattle.points3.specs.declared.PulseRead.{PulseRead}
 use Rattle.points3.specs.Pulses.{points_right, parts_of, points_read, size_of, pulse_right, pulse_read}
 
 sorted : (a b c d : Bool) → (a && b) && (c && d) ≡ (a && c) && (b && d)
@@ -38,14 +39,12 @@ apart (suc places) (suc n) d h =
     ap (λ (b : Bool). (eqb (word_in d % 1024) 0 && point_good (point_in d)) && b) (apart places n (drop 4 d) (omega arith))
     ∙ sorted (eqb (word_in d % 1024) 0) (point_good (point_in d)) (points_clear n (drop 4 d)) (all point_good (take n (points_in places n (drop 4 d))))
 
--- where all are good, each adds its part
-net : (places n : ℕ) (d : List ℕ) → n ≤ places → all point_good (take n (points_in places n d)) ≡ true → parts_of n d ≡ net_of (take n (points_in places n d))
-unfolding all net_of points_in parts_of weighed_point
-net places zero d h e = refl
-net zero (suc n) d h e = absurd (omega arith)
-net (suc places) (suc n) d h e =
-    let t = both (point_good (point_in d)) (all point_good (take n (points_in places n (drop 4 d)))) e in
-    rw t.0 (ap (λ (z : ℤ). part_of (point_in d) +ℤ z) (net places n (drop 4 d) (omega arith) t.1))
+-- the parts are those of the points
+net : (places n : ℕ) (d : List ℕ) → n ≤ places → parts_of n d ≡ net_of (take n (points_in places n d))
+unfolding net_of points_in parts_of
+net places zero d h = refl
+net zero (suc n) d h = absurd (omega arith)
+net (suc places) (suc n) d h = ap (λ (z : ℤ). part_of (point_in d) +ℤ z) (net places n (drop 4 d) (omega arith))
 
 module _ (d : List ℕ) where
   abbrev number : ℕ
@@ -64,29 +63,30 @@ module _ (d : List ℕ) where
       rw (good, apart 16 number (drop 1 d) (omega arith))
       (and_assoc (eqb (get_or d 0 0 / 16 % 2) 0) (points_clear number (drop 1 d)) (all point_good (take number (points_in 16 number (drop 1 d)))))
 
-  charged : pulse_good (config_in d).pulse ≡ true → parts_of number (drop 1 d) ≡ charge_of (config_in d).pulse
-  charged e = net 16 number (drop 1 d) (omega arith) (sym good ∙ e)
-
 -- ---- what the code tells
 
+-- the pulse of points that are read
+abbrev pub made : ℕ → PointsRead → PulseRead
+made number read = record { pulse = record { number = number; points = read.points }; charge = read.charge }
+
 module _ (d : List ℕ) (first : ℕ) (e : first ≡ get_or d 0 0) where
-  module _ (h : length d ≡ size_of first) (read : PointsRead) (r : read ≡ points_read (first % 16 + 1) (drop 1 d)) where
-    asked : pulse_right d ≡ eqb (first / 16 % 2) 0 && read.right
-    unfolding pulse_right points_read
-    asked = rw (r, e, eq-eqb (length d) (size_of (get_or d 0 0)) (rw e at h)) (tested d)
+  pub told : length d ≡ size_of first → first / 16 % 2 ≡ 0 → (read : Option PointsRead) → read ≡ points_read (first % 16 + 1) (drop 1 d)
+      → option_map (made (first % 16 + 1)) read ≡ pulse_read d
+  unfolding pulse_right points_read pulse_read
+  told h k read r =
+      let size : eqb (length d) (size_of (get_or d 0 0)) ≡ true = eq-eqb (length d) (size_of (get_or d 0 0)) (rw e at h) in
+      let clear : eqb (get_or d 0 0 / 16 % 2) 0 ≡ true = eq-eqb (get_or d 0 0 / 16 % 2) 0 (rw e at k) in
+      let parts = net 16 (get_or d 0 0 % 16 + 1) (drop 1 d) (omega arith) in
+      rw (r, e, size, tested d, clear, sym parts) (by (points_right (get_or d 0 0 % 16 + 1) (drop 1 d)) _ (made (get_or d 0 0 % 16 + 1)))
+    where
+      by : (t : Bool) (q : PointsRead) (f : PointsRead → PulseRead) → option_map f (cond t (Some q) None) ≡ cond t (Some (f q)) None
+      by true q f = refl
+      by false q f = refl
 
-    pub right_points : eqb (first / 16 % 2) 0 && read.right ≡ true → (charge : ℤ) → charge ≡ read.charge
-        → record { right = true; pulse = record { number = first % 16 + 1; points = read.points }; charge = charge } ≡ pulse_read d
-    unfolding pulse_right pulse_read points_read
-    right_points t charge z =
-        let p = asked ∙ t in
-        let g = (both (reserved_clear 2 d) (pulse_good (config_in d).pulse) (both (eqb (length d) (size_of (get_or d 0 0))) _ p).1).1 in
-        rw (z, r, e, p) (ap (λ (x : ℤ). record { right = true; pulse = (config_in d).pulse; charge = x }) (charged d g))
-
-    pub wrong_points : eqb (first / 16 % 2) 0 && read.right ≡ false → record { right = false; pulse = no_pulse; charge = pos 0 } ≡ pulse_read d
-    unfolding pulse_read
-    wrong_points f = rw (asked ∙ f)
-
-  pub wrong_size : (length d ≡ size_of first → ⊥) → record { right = false; pulse = no_pulse; charge = pos 0 } ≡ pulse_read d
+  pub wrong_size : (length d ≡ size_of first → ⊥) → None ≡ pulse_read d
   unfolding pulse_right pulse_read
   wrong_size n = rw (ne_eqb (length d) (size_of (get_or d 0 0)) (rw e at n))
+
+  pub wrong_bit : (first / 16 % 2 ≡ 0 → ⊥) → None ≡ pulse_read d
+  unfolding pulse_right pulse_read
+  wrong_bit n = rw (tested d, ne_eqb (get_or d 0 0 / 16 % 2) 0 (rw e at n), and-false (eqb (length d) (size_of (get_or d 0 0))))

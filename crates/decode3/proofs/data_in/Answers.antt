@@ -11,24 +11,24 @@ use Rattle.decode3.proofs.Data.{init_decoded, init_ack_decoded, config_ack_decod
 use Rattle.decode3.proofs.data_in.Goals as goal
 
 pub returns-in-0 : goal.returns-in-0
-returns-in-0 c = rw c.in-0.is (c.tell_alone.ensures ∙ init_decoded _ c.args.d.now _ c.byte_at-first.ensures)
+returns-in-0 c = rw c.in-0.is (c.tell.ensures ∙ init_decoded _ c.args.d.now _ c.byte_at-first.ensures)
 
 pub returns-in-1 : goal.returns-in-1
 returns-in-1 c =
-    rw c.in-1.is (c.tell_alone-in-1.ensures ∙ init_ack_decoded _ c.args.d.now _ c.byte_at-first.ensures _ c.good_result.ensures)
+    rw c.in-1.is (c.tell-in-1.ensures ∙ init_ack_decoded _ c.args.d.now _ c.byte_at-first.ensures _ c.good_result.ensures)
 
 pub returns-in-3 : goal.returns-in-3
 returns-in-3 c =
     rw c.in-3.is
-    (c.tell_alone-in-3.ensures
+    (c.tell-in-3.ensures
     ∙ config_ack_decoded _ c.args.d.now _ c.byte_at-first.ensures _ c.good_result-in-3.ensures _ _ c.byte_at-electrode.ensures c.good_electrode.ensures)
 
 pub returns-in-4 : goal.returns-in-4
-returns-in-4 c = rw c.in-4.is (c.tell_alone-in-4.ensures ∙ stop_decoded _ c.args.d.now)
+returns-in-4 c = rw c.in-4.is (c.tell-in-4.ensures ∙ stop_decoded _ c.args.d.now)
 
 pub returns-in-5 : goal.returns-in-5
 returns-in-5 c =
-    rw c.in-5.is (c.tell_alone-in-5.ensures ∙ stop_ack_decoded _ c.args.d.now _ c.byte_at-first.ensures _ c.good_result-in-5.ensures)
+    rw c.in-5.is (c.tell-in-5.ensures ∙ stop_ack_decoded _ c.args.d.now _ c.byte_at-first.ensures _ c.good_result-in-5.ensures)
 
 pub returns-in_default : goal.returns-in_default
 unfolding data_decoded message_of right net_of
@@ -40,4 +40,4 @@ returns-in_default c =
     let e3 : eqb n 3 ≡ false = ne_eqb n 3 (omega arith) in
     let e4 : eqb n 4 ≡ false = ne_eqb n 4 (omega arith) in
     let e5 : eqb n 5 ≡ false = ne_eqb n 5 (omega arith) in
-    c.tell_alone-in_default.ensures ∙ simp (e0, e1, e2, e3, e4, e5)
+    c.tell-in_default.ensures ∙ simp (e0, e1, e2, e3, e4, e5)

@@ -8,26 +8,32 @@ use lib.Seq.{take_all}
 use mir.Syntax.{w32}
 use mir.Val.{to_z, of_z}
 use Rattle.points3.specs.Pulses.{points_read}
-use Rattle.points3.proofs.GoodPulse.{right_points, wrong_points, wrong_size}
+use Rattle.points3.proofs.GoodPulse.{told, wrong_size, wrong_bit}
 use borrow.Author.Rules.{rules}
 use Rattle.points3.proofs.pulse_in.Goals as goal
+use Rattle.points3.proofs.pulse_in.Goals.{then-d-number-via-then-d-number, then-d-number-via-else-d-number+then-first-ne0}
 
 behind : (d : List ℕ) → take (length d - 1) (drop 1 d) ≡ drop 1 d
 behind d = take_all (length d - 1) (drop 1 d) (rw length-drop (omega arith))
 
-pub returns-then-first-read : goal.returns-then-first-read
-returns-then-first-read c =
-    let a = c.args in
-    let q = c.points_in-read in
-    let z : to_z w32 (of_z w32 q.result.charge) ≡ q.result.charge = search rules in
-    right_points a.d.now _ c.byte_at-first.ensures
-    c.if-d-number.true _ (q.ensures ∙ ap (points_read _) (behind a.d.now)) c.if-first-read.true _ z
+pub returns-then-d-number : goal.returns-then-d-number
+returns-then-d-number c =
+    let d = c.args.d.now in
+    let first = c.byte_at-first.ensures in
+    elim c.then-d-number.branch [
+      | then-d-number-via-then-d-number w ↦ wrong_size d _ first w.if-d-number.true
+      | then-d-number-via-else-d-number+then-first-ne0 w ↦ wrong_bit d _ first w.if-first-ne0.true
+    ]
 
-pub returns-else-first-read : goal.returns-else-first-read
-returns-else-first-read c =
-    let a = c.args in
-    wrong_points a.d.now _ c.byte_at-first.ensures c.if-d-number.true _
-    (c.points_in-read.ensures ∙ ap (points_read _) (behind a.d.now)) c.if-first-read.false
+pub returns-in_err-read : goal.returns-in_err-read
+returns-in_err-read c =
+    let d = c.args.d.now in
+    c.from_residual.ensures
+    ∙ told d _ c.byte_at-first.ensures c.if-d-number.false c.if-first-ne0.false _ (c.in_err-read.ensures ∙ ap (points_read _) (behind d))
 
-pub returns-else-d-number : goal.returns-else-d-number
-returns-else-d-number c = wrong_size c.args.d.now _ c.byte_at-first.ensures c.if-d-number.false
+pub returns : goal.returns
+returns c =
+    let d = c.args.d.now in
+    let read = c.in_ok-read.read in
+    let z : to_z w32 (of_z w32 read.charge) ≡ read.charge = search rules in
+    rw z (told d _ c.byte_at-first.ensures c.if-d-number.false c.if-first-ne0.false _ (c.in_ok-read.ensures ∙ ap (points_read _) (behind d)))
