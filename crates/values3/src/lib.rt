@@ -2,37 +2,22 @@
 #![tactic(auto)]
 
 ghost use Rattle.std.specs.Prelude.{◌&&◌, ◌≡◌};
-ghost use Rattle.charge.specs.Charge.{all, is_zero_point, pulse_good, charge_of, is_zero};
+ghost use Rattle.charge.specs.Charge.{pulse_good, charge_of, is_zero};
 ghost use Rattle.commands3.specs.Commands.{is_no_pulse, good};
 
-use charge::{Point, Pulse};
-use commands3::{Command, Message};
-
-fn all_zero(points: [Point; 16]) -> bool
-    ensures { result ≡ all is_zero_point points }
-{
-    let mut zero = true;
-    let mut i = 0;
-    while i < 16 {
-        let point = points[i];
-        zero = zero & ((point.duration == 0) & (point.code == 0));
-        i += 1;
-    }
-    zero
-}
+use charge::Pulse;
+use commands3::{Command, Message, NO_PULSE};
 
 fn is_no_pulse(p: Pulse) -> bool
     ensures { result ≡ is_no_pulse p }
 {
-    let points = p.points;
-    (p.number == 0) & all_zero(points)
+    p == NO_PULSE
 }
 
 fn is_balanced(p: Pulse) -> bool
     ensures { result ≡ pulse_good p && is_zero (charge_of p) }
 {
-    let w = charge::weigh(p);
-    w.good & (w.charge == 0)
+    charge::weigh(p) == Some(0)
 }
 
 pub fn good(m: Message) -> bool
@@ -53,6 +38,6 @@ pub fn good(m: Message) -> bool
         }
         Command::LlStop => is_no_pulse(p),
         Command::LlStopAck { result } => commands3::good_result(result) & is_no_pulse(p),
-        Command::Other { number: _ } => false,
+        Command::Other { .. } => false,
     }
 }
