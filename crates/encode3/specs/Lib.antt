@@ -1,2 +1,1 @@
 pub mod Encoded
-pub mod Content

@@ -1,33 +1,21 @@
 // The bytes of a content.
-ghost use Rattle.std.specs.Prelude.{true, [], ◌∷◌, ◌++◌, ◌≡◌, ◌≤◌, take};
+ghost use Rattle.std.specs.Prelude.{true, ◌++◌, ◌≡◌, ◌+◌, ◌≤◌, length};
+ghost use Rattle.arrayvec.specs.ArrayVec.{array_vec_len};
 ghost use Rattle.charge.specs.Charge.{of_paper, all};
-ghost use Rattle.commands3.specs.Points.{word_of, bytes_of};
-ghost use Rattle.commands3.specs.Commands.{first_byte};
-ghost use Rattle.commands3.specs.Contents.{two, content_of, writable};
-ghost use Rattle.encode3.specs.Encoded.{by_value};
-ghost use Rattle.encode3.specs.Content.{content_by_value};
+ghost use Rattle.commands3.specs.Points.{point_bytes, bytes_of};
+ghost use Rattle.commands3.specs.Commands.{first_byte, data_of, good_for};
+ghost use Rattle.commands3.specs.Contents.{content_of, writable};
 
-use crate::Encoded;
+use arrayvec::ArrayVec;
 use charge::Point;
 use commands3::{Command, Message};
 
-// The head and the first two bytes of the data.
-fn front(head: u16, first: u8, second: u8) -> [u8; 67]
-    ensures { result ≡ by_value (two head ++ first ∷ second ∷ []) }
-{
-    let mut bytes = [0; 67];
-    bytes[0] = (head / 256) as u8;
-    bytes[1] = (head % 256) as u8;
-    bytes[2] = first;
-    bytes[3] = second;
-    bytes
-}
-
-fn word(p: Point) -> u32
+// The 32 bits of a point, the high byte first.
+fn point_bytes(p: Point) -> [u8; 4]
     requires { of_paper p ≡ true }
-    ensures { result ≡ word_of p }
+    ensures { result ≡ point_bytes p }
 {
-    p.duration as u32 * 1048576 + p.code as u32 * 1024
+    (p.duration as u32 * 1048576 + p.code as u32 * 1024).to_be_bytes()
 }
 
 fn first_byte(execution: u8, channel: u8, number: u16) -> u8
@@ -37,57 +25,50 @@ fn first_byte(execution: u8, channel: u8, number: u16) -> u8
     execution * 128 + channel * 32 + (number - 1) as u8
 }
 
-fn config(head: u16, first: u8, number: usize, points: [Point; 16]) -> Encoded
-    requires { (number ≤ 16) × (all of_paper points ≡ true) }
-    ensures { result ≡ content_by_value (two head ++ first ∷ bytes_of (take number points)) }
+// Puts bytes behind those that are there.
+fn put(bytes: &mut ArrayVec<u8, 67>, more: &[u8])
+    requires { array_vec_len bytes.old + length more.now ≤ 67 }
+    ensures { bytes.new.items ≡ bytes.old.items ++ more.now }
 {
-    let mut bytes = front(head, first, 0);
-    let mut size = 3;
-    let mut i = 0;
-    while i < number {
-        let w = word(points[i]);
-        bytes[size] = (w / 16777216) as u8;
-        bytes[size + 1] = (w / 65536 % 256) as u8;
-        bytes[size + 2] = (w / 256 % 256) as u8;
-        bytes[size + 3] = (w % 256) as u8;
-        size += 4;
-        i += 1;
-    }
-    Encoded {
-        good: true,
-        bytes,
-        size,
+    bytes.try_extend_from_slice(more).unwrap();
+}
+
+fn put_points(bytes: &mut ArrayVec<u8, 67>, points: &[Point])
+    requires { (array_vec_len bytes.old ≡ 3) × (length points.now ≤ 16) × (all of_paper points.now ≡ true) }
+    ensures { bytes.new.items ≡ bytes.old.items ++ bytes_of points.now }
+{
+    for p in points {
+        put(bytes, &point_bytes(*p));
     }
 }
 
-fn short(head: u16, first: u8, second: u8, size: usize) -> Encoded
-    ensures { result ≡ record { good = true; bytes = by_value (two head ++ first ∷ second ∷ []); size = size } }
+fn put_data(bytes: &mut ArrayVec<u8, 67>, m: Message)
+    requires { (array_vec_len bytes.old ≡ 2) × (good_for m.command m.pulse ≡ true) }
+    ensures { bytes.new.items ≡ bytes.old.items ++ data_of m }
 {
-    Encoded {
-        good: true,
-        bytes: front(head, first, second),
-        size,
-    }
-}
-
-pub fn content(packet: u8, m: Message) -> Encoded
-    requires { writable packet m ≡ true }
-    ensures { result ≡ content_by_value (content_of packet m) }
-{
-    let c = m.command;
-    let p = m.pulse;
-    let head = packet as u16 * 1024 + commands3::number(c);
-    match c {
-        Command::LlInit { voltage } => short(head, voltage * 2, 0, 3),
-        Command::LlInitAck { result } => short(head, result, 0, 3),
+    let pulse = m.pulse;
+    match m.command {
+        Command::LlInit { voltage } => bytes.push(voltage * 2),
+        Command::LlInitAck { result } => bytes.push(result),
         Command::LlChannelConfig { execution, channel } => {
-            let points = p.points;
-            let first = first_byte(execution, channel, p.number);
-            config(head, first, p.number as usize, points)
+            bytes.push(first_byte(execution, channel, pulse.number));
+            put_points(bytes, &pulse.points[..pulse.number as usize]);
         }
-        Command::LlChannelConfigAck { result, electrode } => short(head, result, electrode, 4),
-        Command::LlStop => short(head, 0, 0, 2),
-        Command::LlStopAck { result } => short(head, result, 0, 3),
-        Command::Other { number: _ } => short(head, 0, 0, 2),
+        Command::LlChannelConfigAck { result, electrode } => put(bytes, &[result, electrode]),
+        Command::LlStop => {}
+        Command::LlStopAck { result } => bytes.push(result),
+        Command::Other { .. } => {}
     }
+}
+
+// Packet number and command number, and behind them the data.
+pub fn content(packet: u8, m: Message) -> ArrayVec<u8, 67>
+    requires { writable packet m ≡ true }
+    ensures { result.items ≡ content_of packet m }
+{
+    let head = packet as u16 * 1024 + commands3::number(m.command);
+    let mut bytes = ArrayVec::new();
+    put(&mut bytes, &head.to_be_bytes());
+    put_data(&mut bytes, m);
+    bytes
 }

@@ -3,28 +3,20 @@
 
 mod contents;
 
-ghost use Rattle.std.specs.Prelude.{◌≡◌};
+ghost use Rattle.std.specs.Prelude.{◌≡◌, option_map};
 ghost use Rattle.encode3.specs.Encoded.{encoded};
 
+use arrayvec::ArrayVec;
 use commands3::Message;
 
-// Whether a message may be written under a packet number, and the content that it makes, by value: zeros behind it, and how many bytes it has.
-#[derive(Clone, Copy)]
-pub struct Encoded {
-    pub good: bool,
-    pub bytes: [u8; 67],
-    pub size: usize,
-}
-
-pub fn encode(packet: u8, m: Message) -> Encoded
-    ensures { result ≡ encoded packet m }
+// The content that a message makes under a packet number, where it may be written.
+#[tactic(auto, unfolding(crate::specs::Encoded::encoded))]
+pub fn encode(packet: u8, m: Message) -> Option<ArrayVec<u8, 67>>
+    ensures { option_map (λ v. v.items) result ≡ encoded packet m }
 {
     if (packet <= 63) & values3::good(m) {
-        return contents::content(packet, m);
-    }
-    Encoded {
-        good: false,
-        bytes: [0; 67],
-        size: 0,
+        Some(contents::content(packet, m))
+    } else {
+        None
     }
 }
