@@ -1,1 +1,2 @@
 mod Readout
+mod Words

@@ -93,7 +93,7 @@ impl TryFrom<&[u8]> for Step {
     }
 }
 
-// The last eight letters of a word, without the zeros in front of them.
+// Of a name's letters the last eight count, and of those no zeros in front.
 fn letters(word: &[u8]) -> &[u8] {
     let last = &word[word.len().saturating_sub(8)..];
     let zeros = last.iter().take_while(|c| **c == 0).count();

@@ -21,7 +21,7 @@ impl fmt::Display for Pulse {
     }
 }
 
-// The pulses that a call released, one of module A and one of module B.
+// The pulses that a call released, one of module A and one of module B. What is said crosses to C: there no pulse is channel 0.
 pub fn pulses(said: Said) -> [Option<Pulse>; 2] {
     [said.a, said.b].map(|p| (p.channel != 0).then_some(Pulse(p)))
 }
@@ -69,6 +69,7 @@ pub struct Reached<'a>(pub &'a Box);
 
 impl fmt::Display for Reached<'_> {
     fn fmt<W: fmt::Write>(&self, f: &mut fmt::Formatter<W>) -> fmt::Result {
+        // The record crosses to C, so its state is a number.
         let state = match self.0.core.state {
             model::IDLE => "idle",
             model::RUNNING => "running",
