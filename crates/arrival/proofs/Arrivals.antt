@@ -7,7 +7,8 @@ use native.Mathlib.Omega.{arith}
 use lib.Dec.{eqb}
 use lib.ListN.{length, take, length-append}
 use lib.Seq.{length-take-le}
-use borrow.Author.Tests.{eq-eqb, ne_eqb, le-leb, lt-leb}
+use borrow.Author.Tests.{eq-eqb, eqb-true, ne_eqb, le-leb, lt-leb}
+use Rattle.std.proofs.Common.{None, Some}
 use Rattle.frames.specs.Layout.{ident_in}
 use Rattle.model.specs.declared.Core.{Core}
 use Rattle.model.specs.Channels.{channels}
@@ -21,6 +22,7 @@ use Rattle.partial.specs.Partial.{partial_of, frame_of}
 use Rattle.record.specs.Box.{state_of, box_of, good_box}
 use Rattle.partial.proofs.Facts.{OpenFrame, open_facts, size_most}
 use Rattle.record.proofs.Facts.{box_facts}
+use Rattle.model.proofs.Tests.{either_way}
 use Rattle.model.proofs.States.{not_running, tripped_is}
 use Rattle.partial.proofs.Carries.{frame_back}
 use Rattle.record.proofs.Carries.{back}
@@ -29,7 +31,7 @@ use Rattle.outcome.specs.Step.{refused_step, carried}
 use Rattle.decided.specs.ByValue.{by_value}
 use Rattle.effects.specs.Deciding.{decide_frame, Whole}
 use Rattle.effects.proofs.Judged.{whole_decided}
-use Rattle.arrival.specs.Arriving.{grown, unfinished, settled}
+use Rattle.arrival.specs.Arriving.{open_in, grown, unfinished, settled}
 use Rattle.arrival.proofs.Growing.{grown_frame, used_by, len_by}
 use Rattle.arrival.proofs.Wholes.{finished_whole}
 
@@ -108,6 +110,16 @@ pub record Followed (b : Box) (n : ℕ) : Type 0 where
   pub finishes : n < 128 → b.partial.len + 1 ≡ b.partial.kept
       → (followed (partial_of b.partial) n ≡ whole (longer b n).bytes) × Whole (longer b n).bytes
   pub goes_on_lem : (b.partial.len + 1 ≡ b.partial.kept → ⊥) → followed (partial_of b.partial) n ≡ growing (longer b n)
+
+-- the frame that is open is the box's own
+pub found : (q : PartialFrame) {f : PartialFrame} → Some f ≡ open_in q → (q.len ≡ 0 → ⊥) × (q ≡ f)
+found q {f} e =
+    either_way (eqb q.len 0)
+    (λ t. let h : Some f ≡ None = rw t at e in cc)
+    (λ u. let h : Some f ≡ Some q = rw u at e in (λ z. let t = eq-eqb q.len 0 z in cc, cc))
+
+pub none_found : (q : PartialFrame) → None ≡ open_in q → q.len ≡ 0
+none_found q e = either_way (eqb q.len 0) (λ t. eqb-true q.len 0 t) (λ f. let h : None ≡ Some q = rw f at e in cc)
 
 module _ (b : Box) (l : length b.partial.bytes ≡ 25) (g : good_box b ≡ true) (n : ℕ) where
   in_use : length (take b.partial.len b.partial.bytes) ≡ b.partial.len

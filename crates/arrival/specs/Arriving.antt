@@ -1,5 +1,5 @@
 -- What a byte leaves of the partial frame.
-use Rattle.std.specs.Prelude.{ℕ, ◌+◌, [], set}
+use Rattle.std.specs.Prelude.{ℕ, ◌+◌, cond, [], eqb, set, Option, None, Some}
 use Rattle.model.specs.State.{no_frame}
 use Rattle.record.specs.declared.Box.{Box}
 use Rattle.partial.specs.declared.PartialFrame.{PartialFrame}
@@ -7,6 +7,10 @@ use Rattle.partial.specs.Partial.{frame_of}
 use Rattle.outcome.specs.declared.Stepped.{Stepped}
 use Rattle.said.specs.Said.{nothing, records_of}
 use Rattle.decided.specs.declared.Decided.{Decided}
+
+-- the frame that is open, if there is one
+abbrev pub open_in : PartialFrame → Option PartialFrame
+open_in q = cond (eqb q.len 0) None (Some q)
 
 -- one byte more
 abbrev pub grown : PartialFrame → ℕ → PartialFrame

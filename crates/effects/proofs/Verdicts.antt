@@ -10,6 +10,9 @@ use Rattle.commands.specs.declared.Init.{Init}
 use Rattle.commands.specs.declared.Setting.{Setting}
 use Rattle.commands.specs.declared.Single.{Single}
 use Rattle.commands.specs.Answers.{◌when◌, first_of}
+use Rattle.commands.specs.declared.refusals.Refusal.{Refusal}
+use Rattle.commands.specs.Refusals.{number}
+use Rattle.commands.proofs.Numbers.{refused}
 use Rattle.commands.specs.Commands.{Command, Command.init, Command.update, Command.stop, Command.single, ident_of}
 use Rattle.model.specs.declared.Profile.{Profile}
 use Rattle.model.specs.declared.Core.{Core}
@@ -31,14 +34,15 @@ bare n = record { core = n; records = [] }
 module _ (p : Profile) (clock : ℕ) (m : Core) where
   -- ---- what is carried out, and what is not
 
-  module _ (c : Command) {a : ℕ} {r : Decided} (first : a ≡ first_of (late_tests p m c)) where
-    pub carried_out : a ≡ 0 → r ≡ by_value (decided clock (ident_of c) 0 (accept clock m c)) → r ≡ by_value (late p clock m c)
+  module _ (c : Command) {r : Decided} where
+    pub carried_out : 0 ≡ first_of (late_tests p m c) → r ≡ by_value (decided clock (ident_of c) 0 (accept clock m c)) → r ≡ by_value (late p clock m c)
     unfolding late carry
-    carried_out z e = e ∙ rw (sym first ∙ z)
+    carried_out z e = e ∙ rw (← z)
 
-    pub not_carried : (a ≡ 0 → ⊥) → r ≡ by_value (drop_frame clock m (ident_of c) a) → r ≡ by_value (late p clock m c)
+    pub not_carried : (x : Refusal) → number x ≡ first_of (late_tests p m c) → r ≡ by_value (drop_frame clock m (ident_of c) (number x))
+        → r ≡ by_value (late p clock m c)
     unfolding late carry
-    not_carried n e = e ∙ rw (← first, ne_eqb a 0 n)
+    not_carried x f e = e ∙ rw (← f, ne_eqb (number x) 0 (refused x))
 
   -- ---- the tests of each kind, and what it does
 
@@ -47,22 +51,23 @@ module _ (p : Profile) (clock : ℕ) (m : Core) where
     unfolding late_tests breaks_timing in_hold over_limit
     init_tests = judged
 
-    pub init_done : {n : Core} {r : Decided} → a ≡ 0 → n ≡ record { holda = 15; holdb = 15; state = 1; run = started v }
-        → r ≡ by_value (decided clock 0 a (bare n)) → r ≡ by_value (late p clock m (init v))
-    unfolding accept
-    init_done z e t = carried_out (init v) init_tests z (t ∙ rw (z, e))
+  pub init_done : (v : Init) {n : Core} {r : Decided} → 0 ≡ first_of (late_tests p m (init v))
+      → n ≡ record { holda = 15; holdb = 15; state = 1; run = started v } → r ≡ by_value (decided clock 0 0 (bare n))
+      → r ≡ by_value (late p clock m (init v))
+  unfolding accept
+  init_done v f e t = carried_out (init v) f (t ∙ rw e)
 
-  module _ (entries : List Setting) {settings : List Setting} {a : ℕ} (asks : settings ≡ placed m.run.list.stim entries)
-      (judged : a ≡ first_of (6 when not (is_running m) ∷ 5 when not (update_timing m.run.list settings) ∷ 9 when over_limits p settings ∷ []))
-    where
-      pub update_tests : a ≡ first_of (late_tests p m (update 0 entries))
-      unfolding late_tests breaks_timing in_hold over_limit asked
-      update_tests = rw asks at judged
+  module _ (entries : List Setting) {settings : List Setting} (asks : settings ≡ placed m.run.list.stim entries) where
+    pub update_tests : {a : ℕ}
+        → a ≡ first_of (6 when not (is_running m) ∷ 5 when not (update_timing m.run.list settings) ∷ 9 when over_limits p settings ∷ [])
+        → a ≡ first_of (late_tests p m (update 0 entries))
+    unfolding late_tests breaks_timing in_hold over_limit asked
+    update_tests judged = rw asks at judged
 
-      pub update_done : {n : Core} {r : Decided} → a ≡ 0 → n ≡ with_run m (waited m.run settings)
-          → r ≡ by_value (decided clock 1 a (bare n)) → r ≡ by_value (late p clock m (update 0 entries))
-      unfolding accept asked
-      update_done z e t = carried_out (update 0 entries) update_tests z (t ∙ rw (z, e, asks))
+    pub update_done : {n : Core} {r : Decided} → 0 ≡ first_of (late_tests p m (update 0 entries)) → n ≡ with_run m (waited m.run settings)
+        → r ≡ by_value (decided clock 1 0 (bare n)) → r ≡ by_value (late p clock m (update 0 entries))
+    unfolding accept asked
+    update_done f e t = carried_out (update 0 entries) f (t ∙ rw (e, asks))
 
   pub single_tests : (v : Single) {a : ℕ}
       → a ≡ first_of (7 when is_running m ∷ 8 when ltb 0 (hold_of m v.channel) ∷ 9 when over_limits p (set silence v.channel (record { mode = 0; width = v.width; current = v.current })) ∷ [])
@@ -74,4 +79,4 @@ module _ (p : Profile) (clock : ℕ) (m : Core) where
   pub stop_done : {n : Core} {r : Decided} → n ≡ record { holda = 15; holdb = 15; state = 0; run = still }
       → r ≡ by_value (decided clock 2 0 (bare n)) → r ≡ by_value (late p clock m stop)
   unfolding late_tests breaks_timing in_hold over_limit accept
-  stop_done e t = carried_out stop refl refl (t ∙ rw e)
+  stop_done e t = carried_out stop refl (t ∙ rw e)

@@ -4,19 +4,20 @@ ghost use Rattle.model.specs.State.{still};
 ghost use Rattle.model.specs.Effects.{with_run, fed, started, waited};
 
 use commands::{Init, Setting};
-use model::Core;
+use model::{Core, Run};
 
 // An accepted Init.
-pub fn running(v: Init) -> Core
-    ensures { result ≡ record { holda = 15; holdb = 15; state = 1; run = started v } }
+pub fn running(list: Init) -> Core
+    ensures { result ≡ record { holda = 15; holdb = 15; state = 1; run = started list } }
 {
-    let mut run = model::STILL;
-    run.list = v;
     Core {
         holda: model::HOLD,
         holdb: model::HOLD,
         state: model::RUNNING,
-        run,
+        run: Run {
+            list,
+            ..model::STILL
+        },
     }
 }
 
@@ -24,40 +25,46 @@ pub fn running(v: Init) -> Core
 pub fn idle() -> Core
     ensures { result ≡ record { holda = 15; holdb = 15; state = 0; run = still } }
 {
-    let run = model::STILL;
     Core {
         holda: model::HOLD,
         holdb: model::HOLD,
         state: model::IDLE,
-        run,
+        run: model::STILL,
     }
 }
 
 // An accepted Update waits.
-pub fn wait(m: Core, settings: [Setting; 8]) -> Core
-    ensures { result ≡ with_run m (waited m.run settings) }
+pub fn wait(m: &Core, waiting: [Setting; 8]) -> Core
+    ensures { result ≡ with_run m.now (waited m.now.run waiting) }
 {
-    let mut n = m;
-    let mut run = m.run;
-    run.waits = 1;
-    run.waiting = settings;
-    run.watch = 0;
-    n.run = run;
-    n
+    Core {
+        run: Run {
+            waits: 1,
+            waiting,
+            watch: 0,
+            ..m.run
+        },
+        ..*m
+    }
 }
 
 // An accepted Single sets its module's hold.
-pub fn hold(m: Core, channel: u8) -> Core
-    ensures { result ≡ record { holda = cond (ltb channel 4) 15 m.holda; holdb = cond (ltb channel 4) m.holdb 15; state = m.state; run = fed m.run } }
+pub fn hold(m: &Core, channel: u8) -> Core
+    ensures { result ≡ record { holda = cond (ltb channel 4) 15 m.now.holda; holdb = cond (ltb channel 4) m.now.holdb 15; state = m.now.state; run = fed m.now.run } }
 {
-    let mut n = m;
-    let mut run = m.run;
-    run.watch = 0;
-    n.run = run;
+    let fed = Core {
+        run: Run { watch: 0, ..m.run },
+        ..*m
+    };
     if channel < model::CHANNELS {
-        n.holda = model::HOLD;
-        return n;
+        Core {
+            holda: model::HOLD,
+            ..fed
+        }
+    } else {
+        Core {
+            holdb: model::HOLD,
+            ..fed
+        }
     }
-    n.holdb = model::HOLD;
-    n
 }

@@ -7,49 +7,46 @@ ghost use Rattle.decided.specs.ByValue.{by_value};
 ghost use Rattle.effects.specs.Deciding.{late};
 
 use super::{cores, single};
-use commands::{Init, Setting, Single, answers, idents, refusals};
+use commands::{Init, Setting, Single, idents};
 use decided::Decided;
-use model::{Core, Profile};
+use record::Box;
 
-pub fn on_init(p: Profile, clock: u32, m: Core, v: Init) -> Decided
-    ensures { result ≡ by_value (late p clock m (init v)) }
+pub fn on_init(b: &Box, v: Init) -> Decided
+    ensures { result ≡ by_value (late b.now.profile b.now.clock b.now.core (init v)) }
 {
-    let answer = refusals::answer(&judgement::judge_init(p, v));
-    if answer == answers::DONE {
-        return decided::tell(clock, idents::INIT, answer, cores::running(v));
+    match judgement::judge_init(b.profile, v) {
+        Ok(()) => decided::tell(b.clock, idents::INIT, Ok(()), cores::running(v)),
+        Err(refusal) => decided::drop_frame(b.clock, idents::INIT, refusal, &b.core),
     }
-    decided::drop_frame(clock, idents::INIT, answer, m)
 }
 
-pub fn on_update(p: Profile, clock: u32, m: Core, entries: [Setting; 8]) -> Decided
-    ensures { result ≡ by_value (late p clock m (update 0 entries)) }
+pub fn on_update(b: &Box, entries: [Setting; 8]) -> Decided
+    ensures { result ≡ by_value (late b.now.profile b.now.clock b.now.core (update 0 entries)) }
 {
-    let settings = judgement::place(m.run.list.stim, entries);
-    let answer = refusals::answer(&judgement::judge_update(p, m, settings));
-    if answer == answers::DONE {
-        return decided::tell(clock, idents::UPDATE, answer, cores::wait(m, settings));
+    let settings = judgement::place(b.core.run.list.stim, entries);
+    match judgement::judge_update(b.profile, b.core, settings) {
+        Ok(()) => decided::tell(b.clock, idents::UPDATE, Ok(()), cores::wait(&b.core, settings)),
+        Err(refusal) => decided::drop_frame(b.clock, idents::UPDATE, refusal, &b.core),
     }
-    decided::drop_frame(clock, idents::UPDATE, answer, m)
 }
 
-fn accept_single(clock: u32, m: Core, v: Single) -> Decided
+fn accept_single(b: &Box, v: Single) -> Decided
     requires { v.channel < 8 }
-    ensures { result ≡ by_value (decided clock 3 0 (accept clock m (single v))) }
+    ensures { result ≡ by_value (decided b.now.clock 3 0 (accept b.now.clock b.now.core (single v))) }
 {
-    let held = cores::hold(m, v.channel);
+    let held = cores::hold(&b.core, v.channel);
     if schedule::is_felt(v.width, v.current) {
-        return single::tell_pulse(clock, held, v.channel, v.width, v.current);
+        return single::tell_pulse(b.clock, held, v);
     }
-    decided::tell(clock, idents::SINGLE, answers::DONE, held)
+    decided::tell(b.clock, idents::SINGLE, Ok(()), held)
 }
 
-pub fn on_single(p: Profile, clock: u32, m: Core, v: Single) -> Decided
+pub fn on_single(b: &Box, v: Single) -> Decided
     requires { v.channel < 8 }
-    ensures { result ≡ by_value (late p clock m (single v)) }
+    ensures { result ≡ by_value (late b.now.profile b.now.clock b.now.core (single v)) }
 {
-    let answer = refusals::answer(&judgement::judge_single(p, m, v));
-    if answer == answers::DONE {
-        return accept_single(clock, m, v);
+    match judgement::judge_single(b.profile, b.core, v) {
+        Ok(()) => accept_single(b, v),
+        Err(refusal) => decided::drop_frame(b.clock, idents::SINGLE, refusal, &b.core),
     }
-    decided::drop_frame(clock, idents::SINGLE, answer, m)
 }

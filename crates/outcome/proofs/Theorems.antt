@@ -1,6 +1,6 @@
 -- The promises of `specs/Claims`. Assumes nothing.
 use mathlib.Core.Bool.{true}
-use mathlib.Core.Path.{◌≡◌, refl}
+use mathlib.Core.Path.{◌≡◌, refl, sym}
 use lib.Dec.{eqb}
 use Rattle.model.specs.Machine.{Call}
 use Rattle.model.proofs.GoodStates.{state_good}
@@ -20,9 +20,9 @@ use Rattle.outcome.proofs.Lost.{row_back, placed}
 pub none_lost : NoneLost
 unfolding carried said_of
 none_lost b ring c e =
-    let g = box_facts b (good_taken b ring (refusal b ring) refl e) in
+    let g = box_facts b (good_taken b ring (sym e)) in
     let r = step_releases b.profile (state_of b) c g.state in
-    let t = call_taken b ring (refusal b ring) refl c e in
+    let t = call_taken b ring c refl (sym e) in
     record {
       records = rw (← t) (row_back (stepped b c).records (few r));
       pulses = rw (← t) (placed r);

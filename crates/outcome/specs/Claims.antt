@@ -1,6 +1,6 @@
 -- What is promised of a call on a box record, as statements: nothing of the machine's step is lost by value, and a good box stays
 -- good. Each is proved in `proofs/Theorems`.
-use Rattle.std.specs.Prelude.{ℕ, true, cond, ◌≡◌, List, [], ◌∷◌, ◌++◌, eqb, take}
+use Rattle.std.specs.Prelude.{ℕ, true, cond, ◌≡◌, List, [], ◌∷◌, ◌++◌, eqb}
 use Rattle.trace.specs.declared.Record.{Record}
 use Rattle.trace.specs.declared.Record.TheVariants.{Answer, Pulse, Trip}
 use Rattle.model.specs.Arrival.{Result}
@@ -10,12 +10,15 @@ use Rattle.record.specs.Box.{state_of, good_box}
 use Rattle.said.specs.declared.Released.{Released}
 use Rattle.said.specs.declared.Said.{Said}
 use Rattle.said.specs.declared.Records.{Records}
+use Rattle.said.specs.declared.Records.TheVariants.{Empty, One, Two}
 use Rattle.said.specs.Said.{pulse_record}
 use Rattle.outcome.specs.Step.{refusal, step_of}
 
 -- the records that come back, as a row
 abbrev pub row : Records → List Record
-row r = take r.count (r.first ∷ r.second ∷ [])
+row Empty = []
+row (One x) = x ∷ []
+row (Two x y) = x ∷ y ∷ []
 
 -- the pulses among records
 unfoldable pub pulses_in : List Record → List Record

@@ -1,5 +1,5 @@
 -- What a call gives back, by value: its answer and reply, a pulse of module A and one of module B, and its records.
-use Rattle.std.specs.Prelude.{ℕ, cond, List, [], ◌∷◌}
+use Rattle.std.specs.Prelude.{ℕ, cond, List, [], ◌∷◌, Option, None, Some}
 use Rattle.commands.specs.Ranges.{within}
 use Rattle.trace.specs.declared.Record.{Record}
 use Rattle.trace.specs.declared.Record.TheVariants.{Answer, Pulse, Trip}
@@ -7,10 +7,16 @@ use Rattle.model.specs.Arrival.{Result}
 use Rattle.said.specs.declared.Released.{Released}
 use Rattle.said.specs.declared.Said.{Said}
 use Rattle.said.specs.declared.Records.{Records}
+use Rattle.said.specs.declared.Records.TheVariants.{Empty, One, Two}
 
 -- no pulse
 abbrev pub nothing : Released
 nothing = record { clock = 0; channel = 0; width = 0; current = 0 }
+
+-- a pulse that may be missing, as it is handed back
+abbrev pub shown : Option Released → Released
+shown None = nothing
+shown (Some x) = x
 
 abbrev pub released : ℕ → ℕ → ℕ → ℕ → Released
 released clock channel width current = record { clock = clock; channel = channel; width = width; current = current }
@@ -31,8 +37,8 @@ pulse_of least most (Trip clock cause ∷ xs) = pulse_of least most xs
 unfoldable pub said_of : Result → Said
 said_of r = record { answer = r.answer; reply = r.reply; a = pulse_of 1 4 r.records; b = pulse_of 5 8 r.records }
 
--- the records, of which a call releases at most two; one that is not there is a 03 of zeros
+-- the records, of which a call releases at most two
 abbrev pub records_of : List Record → Records
-records_of [] = record { count = 0; first = Trip 0 0; second = Trip 0 0 }
-records_of (x ∷ []) = record { count = 1; first = x; second = Trip 0 0 }
-records_of (x ∷ y ∷ xs) = record { count = 2; first = x; second = y }
+records_of [] = Empty
+records_of (x ∷ []) = One x
+records_of (x ∷ y ∷ xs) = Two x y

@@ -1,5 +1,5 @@
 -- What a tick gives back and leaves of a good box.
-use Rattle.std.specs.Prelude.{ℕ, ◌+◌, ◌-◌, cond, [], ◌∷◌, ltb, eqb, get_or}
+use Rattle.std.specs.Prelude.{ℕ, ◌+◌, ◌-◌, cond, [], ◌∷◌, ltb, get_or, Option, None, Some}
 use Rattle.commands.specs.declared.Setting.{Setting}
 use Rattle.commands.specs.Commands.{no_setting}
 use Rattle.model.specs.declared.Run.{Run}
@@ -9,7 +9,7 @@ use Rattle.record.specs.declared.Box.{Box}
 use Rattle.said.specs.declared.Released.{Released}
 use Rattle.said.specs.declared.Records.{Records}
 use Rattle.outcome.specs.declared.Stepped.{Stepped}
-use Rattle.said.specs.Said.{nothing, released, pulse_record, pulse_of, records_of}
+use Rattle.said.specs.Said.{released, pulse_record, pulse_of, records_of}
 
 -- the partial frame stays
 abbrev pub with_core : Box → ℕ → Core → Box
@@ -28,13 +28,13 @@ ticked b clock d =
     }
 
 -- the pulse of a channel, which the ring calls i + 1; none where the channel's number is 8
-unfoldable pub released_at : ℕ → Run → ℕ → Released
+unfoldable pub released_at : ℕ → Run → ℕ → Option Released
 released_at clock r i =
-    let x : Setting = get_or r.settings i no_setting in cond (ltb i 8) (released clock (i + 1) x.width x.current) nothing
+    let x : Setting = get_or r.settings i no_setting in cond (ltb i 8) (Some (released clock (i + 1) x.width x.current)) None
 
 -- the records of two pulses, of which each may be none
-unfoldable pub pulse_records : Released → Released → Records
-pulse_records a b =
-    cond (eqb a.channel 0)
-    (cond (eqb b.channel 0) (records_of []) (records_of (pulse_record b ∷ [])))
-    (cond (eqb b.channel 0) (records_of (pulse_record a ∷ [])) (records_of (pulse_record a ∷ pulse_record b ∷ [])))
+abbrev pub pulse_records : Option Released → Option Released → Records
+pulse_records None None = records_of []
+pulse_records None (Some b) = records_of (pulse_record b ∷ [])
+pulse_records (Some a) None = records_of (pulse_record a ∷ [])
+pulse_records (Some a) (Some b) = records_of (pulse_record a ∷ pulse_record b ∷ [])

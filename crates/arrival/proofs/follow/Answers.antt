@@ -2,43 +2,53 @@ use mathlib.Core.Path.{◌≡◌, ◌∙◌}
 use lib.ListN.{length}
 use borrow.Author.Rules.{rules}
 use Rattle.record.specs.Box.{state_of}
+use Rattle.arrival.specs.Arriving.{grown}
 use Rattle.arrival.proofs.Growing.{used_by}
-use Rattle.arrival.proofs.Arrivals.{kept_as, ready, longer, strays, followed_by}
+use Rattle.arrival.proofs.Arrivals.{kept_as, ready, longer, found, none_found, strays, followed_by}
 use Rattle.arrival.proofs.follow.Goals as goal
 
-pub returns-then-b-eq0 : goal.returns-then-b-eq0
+pub returns-in-None : goal.returns-in-None
 unfolding state_of
-returns-then-b-eq0 c =
-    let sized : length c.args.b.partial.bytes ≡ 25 = search rules in
-    c.refuse.ensures ∙ strays c.args.b sized c.requires.0 c.args.n c.if-b-eq0.true
+returns-in-None c =
+    let b = c.args.b.now in
+    let sized : length b.partial.bytes ≡ 25 = search rules in
+    c.refuse.ensures ∙ strays b sized c.requires.0 c.args.n (none_found b.partial c.in-None.ensures)
 
 pub grow-longer-requires : goal.grow-longer-requires
 grow-longer-requires c =
-    let sized : length c.args.b.partial.bytes ≡ 25 = search rules in
-    (followed_by c.args.b sized c.requires.0 c.args.n c.if-b-eq0.false).room
+    let b = c.args.b.now in
+    let own = found b.partial c.in-Some.ensures in
+    let sized : length c.in-Some.frame.bytes ≡ 25 = search rules in
+    rw own.1 at (followed_by b (rw own.1 sized) c.requires.0 c.args.n own.0).room
 
 pub finish-requires : goal.finish-requires
 finish-requires c =
-    let sized : length c.args.b.partial.bytes ≡ 25 = search rules in
-    let grow = c.grow-longer in
-    let f = followed_by c.args.b sized c.requires.0 c.args.n c.if-b-eq0.false in
-    ready grow.result (longer c.args.b c.args.n) (grow.ensures ∙ f.grows) f.fits
-    (f.finishes c.requires.1 (rw grow.ensures at c.if-longer.true)).1
+    let b = c.args.b.now in
+    let own = found b.partial c.in-Some.ensures in
+    let sized : length c.in-Some.frame.bytes ≡ 25 = search rules in
+    let f = followed_by b (rw own.1 sized) c.requires.0 c.args.n own.0 in
+    let grows : c.grow-longer.result ≡ grown b.partial c.args.n = rw own.1 c.grow-longer.ensures in
+    ready c.grow-longer.result (longer b c.args.n) (grows ∙ f.grows) f.fits
+    (f.finishes c.requires.1 (rw (c.from.ensures, grows) at c.if-longer-from.true)).1
 
-pub returns-then-longer : goal.returns-then-longer
+pub returns-then-longer-from : goal.returns-then-longer-from
 unfolding state_of
-returns-then-longer c =
-    let sized : length c.args.b.partial.bytes ≡ 25 = search rules in
-    let grow = c.grow-longer in
-    let f = followed_by c.args.b sized c.requires.0 c.args.n c.if-b-eq0.false in
-    let bytes = used_by grow.result (longer c.args.b c.args.n) (grow.ensures ∙ f.grows) in
-    c.finish.ensures ∙ rw (bytes, (f.finishes c.requires.1 (rw grow.ensures at c.if-longer.true)).0)
+returns-then-longer-from c =
+    let b = c.args.b.now in
+    let own = found b.partial c.in-Some.ensures in
+    let sized : length c.in-Some.frame.bytes ≡ 25 = search rules in
+    let f = followed_by b (rw own.1 sized) c.requires.0 c.args.n own.0 in
+    let grows : c.grow-longer.result ≡ grown b.partial c.args.n = rw own.1 c.grow-longer.ensures in
+    let bytes = used_by c.grow-longer.result (longer b c.args.n) (grows ∙ f.grows) in
+    c.finish.ensures ∙ rw (bytes, (f.finishes c.requires.1 (rw (c.from.ensures, grows) at c.if-longer-from.true)).0)
 
-pub returns : goal.returns
+pub returns-else-longer-from : goal.returns-else-longer-from
 unfolding state_of
-returns c =
-    let sized : length c.args.b.partial.bytes ≡ 25 = search rules in
-    let grow = c.grow-longer in
-    let f = followed_by c.args.b sized c.requires.0 c.args.n c.if-b-eq0.false in
+returns-else-longer-from c =
+    let b = c.args.b.now in
+    let own = found b.partial c.in-Some.ensures in
+    let sized : length c.in-Some.frame.bytes ≡ 25 = search rules in
+    let f = followed_by b (rw own.1 sized) c.requires.0 c.args.n own.0 in
+    let grows : c.grow-longer.result ≡ grown b.partial c.args.n = rw own.1 c.grow-longer.ensures in
     c.keep.ensures
-    ∙ rw (grow.ensures ∙ f.grows, f.goes_on_lem (rw grow.ensures at c.if-longer.false)) (kept_as c.args.b (longer c.args.b c.args.n))
+    ∙ rw (grows ∙ f.grows, f.goes_on_lem (rw (c.from.ensures, grows) at c.if-longer-from.false)) (kept_as b (longer b c.args.n))

@@ -7,37 +7,35 @@ use Rattle.arrival.proofs.Growing.{used_by}
 use Rattle.arrival.proofs.Arrivals.{kept_as, ready, opens_update, opens_init, opens_stop, opens_single}
 use Rattle.arrival.proofs.open_frame.Goals as goal
 
-pub returns-then-ident-eq-UPDATE : goal.returns-then-ident-eq-UPDATE
-returns-then-ident-eq-UPDATE c =
-    let a = c.args in
-    c.open_update.ensures ∙ rw (opens_update a.b.core a.n (sym c.ident_of-ident.ensures ∙ c.if-ident-eq-UPDATE.true))
+pub returns-in-1 : goal.returns-in-1
+returns-in-1 c = c.open_update.ensures ∙ rw (opens_update c.args.b.now.core c.args.n (sym c.ident_of.ensures ∙ c.in-1.is))
 
-pub returns-then-ident-eq-INIT : goal.returns-then-ident-eq-INIT
-returns-then-ident-eq-INIT c =
+pub returns-in-0 : goal.returns-in-0
+returns-in-0 c =
     let a = c.args in
-    let opens = opens_init a.b.core a.n (sym c.ident_of-ident.ensures ∙ c.if-ident-eq-INIT.true) in
-    rw opens (c.keep.ensures ∙ rw c.first.ensures (kept_as a.b (record { bytes = a.n ∷ []; size = 6 })))
+    let opens = opens_init a.b.now.core a.n (sym c.ident_of.ensures ∙ c.in-0.is) in
+    rw opens (c.keep.ensures ∙ rw c.first.ensures (kept_as a.b.now (record { bytes = a.n ∷ []; size = 6 })))
 
 pub finish-requires : goal.finish-requires
 finish-requires c =
-    let whole = stop_whole c.args.n c.requires (sym c.ident_of-ident.ensures ∙ c.if-ident-eq-STOP.true) in
-    ready c.first-then-ident-eq-STOP.result (record { bytes = c.args.n ∷ []; size = 1 }) c.first-then-ident-eq-STOP.ensures (omega arith) whole
+    let whole = stop_whole c.args.n c.requires (sym c.ident_of.ensures ∙ c.in-2.is) in
+    ready c.first-in-2.result (record { bytes = c.args.n ∷ []; size = 1 }) c.first-in-2.ensures (omega arith) whole
 
-pub returns-then-ident-eq-STOP : goal.returns-then-ident-eq-STOP
-returns-then-ident-eq-STOP c =
+pub returns-in-2 : goal.returns-in-2
+returns-in-2 c =
     let a = c.args in
-    let byte = used_by c.first-then-ident-eq-STOP.result (record { bytes = a.n ∷ []; size = 1 }) c.first-then-ident-eq-STOP.ensures in
-    let opens = opens_stop a.b.core a.n (sym c.ident_of-ident.ensures ∙ c.if-ident-eq-STOP.true) in
+    let byte = used_by c.first-in-2.result (record { bytes = a.n ∷ []; size = 1 }) c.first-in-2.ensures in
+    let opens = opens_stop a.b.now.core a.n (sym c.ident_of.ensures ∙ c.in-2.is) in
     c.finish.ensures ∙ rw (byte, opens)
 
-pub returns : goal.returns
-returns c =
+pub returns-in_default : goal.returns-in_default
+returns-in_default c =
     let a = c.args in
-    let i = c.ident_of-ident.ensures in
+    let i = c.ident_of.ensures in
     let is-single =
     last_ident (a.n ∷ [])
-    (λ e. c.if-ident-eq-INIT.false (i ∙ e))
-    (λ e. c.if-ident-eq-UPDATE.false (i ∙ e))
-    (λ e. c.if-ident-eq-STOP.false (i ∙ e)) in
-    let opens = opens_single a.b.core a.n is-single in
-    rw opens (c.keep-2.ensures ∙ rw c.first-2.ensures (kept_as a.b (record { bytes = a.n ∷ []; size = 4 })))
+    (λ e. omega (arith, i ∙ e))
+    (λ e. omega (arith, i ∙ e))
+    (λ e. omega (arith, i ∙ e)) in
+    let opens = opens_single a.b.now.core a.n is-single in
+    rw opens (c.keep-in_default.ensures ∙ rw c.first-in_default.ensures (kept_as a.b.now (record { bytes = a.n ∷ []; size = 4 })))

@@ -4,8 +4,7 @@ use Rattle.arrival.proofs.open_update.Goals as goal
 
 pub returns-then-b-eq-RUNNING : goal.returns-then-b-eq-RUNNING
 returns-then-b-eq-RUNNING c =
-    let a = c.args in
-    c.keep.ensures ∙ rw (c.first.ensures, c.channels.ensures.0) (update_opens a.b a.n c.if-b-eq-RUNNING.true)
+    c.keep.ensures ∙ rw (c.first.ensures, c.channels.ensures.0) (update_opens c.args.b.now c.args.n c.if-b-eq-RUNNING.true)
 
 pub returns : goal.returns
-returns c = let a = c.args in c.alone.ensures ∙ rw (update_alone a.b a.n c.if-b-eq-RUNNING.false)
+returns c = c.alone.ensures ∙ rw (update_alone c.args.b.now c.args.n c.if-b-eq-RUNNING.false)

@@ -1,14 +1,13 @@
-use mathlib.Core.Path.{◌∙◌}
 use Rattle.commands.specs.Commands.{Command.init}
 use Rattle.effects.proofs.Verdicts.{not_carried, init_tests, init_done}
 use Rattle.effects.proofs.kinds.on_init.Goals as goal
 
-pub returns-then-answer-eq-DONE : goal.returns-then-answer-eq-DONE
-returns-then-answer-eq-DONE c =
-    let a = c.args in
-    init_done a.p a.clock a.m a.v (c.answer-answer.ensures ∙ c.judge_init.ensures) c.if-answer-eq-DONE.true c.running.ensures c.tell.ensures
+pub returns-in-Ok : goal.returns-in-Ok
+returns-in-Ok c =
+    let b = c.args.b.now in
+    init_done b.profile b.clock b.core c.args.v (init_tests b.profile b.clock b.core c.args.v (c.in-Ok.ensures)) c.running.ensures c.tell.ensures
 
-pub returns : goal.returns
-returns c =
-    let a = c.args in
-    not_carried a.p a.clock a.m (init a.v) (init_tests a.p a.clock a.m a.v (c.answer-answer.ensures ∙ c.judge_init.ensures)) c.if-answer-eq-DONE.false c.drop_frame.ensures
+pub returns-in-Err : goal.returns-in-Err
+returns-in-Err c =
+    let b = c.args.b.now in
+    not_carried b.profile b.clock b.core (init c.args.v) _ (init_tests b.profile b.clock b.core c.args.v c.in-Err.ensures) c.drop_frame.ensures

@@ -1,14 +1,13 @@
-use mathlib.Core.Path.{◌∙◌}
 use Rattle.commands.specs.Commands.{Command.single}
 use Rattle.effects.proofs.Verdicts.{carried_out, not_carried, single_tests}
 use Rattle.effects.proofs.kinds.on_single.Goals as goal
 
-pub returns-then-answer-eq-DONE : goal.returns-then-answer-eq-DONE
-returns-then-answer-eq-DONE c =
-    let a = c.args in
-    carried_out a.p a.clock a.m (single a.v) (single_tests a.p a.clock a.m a.v (c.answer-answer.ensures ∙ c.judge_single.ensures)) c.if-answer-eq-DONE.true c.accept_single.ensures
+pub returns-in-Ok : goal.returns-in-Ok
+returns-in-Ok c =
+    let b = c.args.b.now in
+    carried_out b.profile b.clock b.core (single c.args.v) (single_tests b.profile b.clock b.core c.args.v c.in-Ok.ensures) c.accept_single.ensures
 
-pub returns : goal.returns
-returns c =
-    let a = c.args in
-    not_carried a.p a.clock a.m (single a.v) (single_tests a.p a.clock a.m a.v (c.answer-answer.ensures ∙ c.judge_single.ensures)) c.if-answer-eq-DONE.false c.drop_frame.ensures
+pub returns-in-Err : goal.returns-in-Err
+returns-in-Err c =
+    let b = c.args.b.now in
+    not_carried b.profile b.clock b.core (single c.args.v) _ (single_tests b.profile b.clock b.core c.args.v c.in-Err.ensures) c.drop_frame.ensures
