@@ -90,7 +90,10 @@ fn alone(b: &Box) -> Stepped
     } else {
         Refusal::NoList
     };
-    settle(b, decided::tell(b.clock, idents::UPDATE, Err(refusal), b.core))
+    settle(
+        b,
+        decided::tell(b.clock, idents::UPDATE, Err(refusal), b.core),
+    )
 }
 
 // A whole frame is read, judged and carried out.

@@ -42,19 +42,19 @@ pub extern "C" fn yarrowbell_make(profile: Profile, capacity: u32) -> Made
 pub extern "C" fn yarrowbell_byte(b: Box, buf: &mut [u8], at: Part, n: u8) -> Called
     ensures { (result ≡ (call_of b buf.old at (byte n)).called) × (buf.new ≡ (call_of b buf.old at (byte n)).buf) }
 {
-    guard::byte(b, buf, at, n)
+    guard::byte(&b, buf, at, n)
 }
 
 #[unsafe(no_mangle)]
 pub extern "C" fn yarrowbell_tick(b: Box, buf: &mut [u8], at: Part) -> Called
     ensures { (result ≡ (call_of b buf.old at tick).called) × (buf.new ≡ (call_of b buf.old at tick).buf) }
 {
-    guard::tick(b, buf, at)
+    guard::tick(&b, buf, at)
 }
 
 #[unsafe(no_mangle)]
 pub extern "C" fn yarrowbell_readout(b: Box, buf: &[u8], at: Part, out: &mut [u8]) -> Readout
     ensures { (result ≡ readout_of b buf.now at (length out.old)) × (out.new ≡ readout_bytes b buf.now at out.old) }
 {
-    guard::readout(b, buf, at, out)
+    guard::readout(&b, buf, at, out)
 }

@@ -1,6 +1,8 @@
 -- Making a box (document 01, "Numbers the box answers"): 11, then a capacity of 16 to 4,096 bytes, else 13.
-use Rattle.std.specs.Prelude.{ℕ, cond, not, [], ◌∷◌, eqb, replicate}
+use Rattle.std.specs.Prelude.{ℕ, cond, not, [], ◌∷◌, eqb, replicate, Result, Ok, Err}
 use Rattle.commands.specs.Answers.{◌when◌, first_of}
+use Rattle.commands.specs.declared.refusals.Refusal.{Refusal}
+use Rattle.commands.specs.Refusals.{number}
 use Rattle.trace.specs.Ring.{empty_ring, good_capacity}
 use Rattle.model.specs.declared.Profile.{Profile}
 use Rattle.model.specs.Profiles.{good_profile}
@@ -27,3 +29,8 @@ make_answer p capacity = first_of (11 when not (good_profile p) ∷ 13 when not 
 unfoldable pub make_of : Profile → ℕ → Made
 make_of p capacity =
     let a : ℕ = make_answer p capacity in record { answer = a; made = cond (eqb a 0) (fresh_box p capacity) zero_box }
+
+-- a box or its refusal, as numbers
+abbrev pub reported : Result Box Refusal → Made
+reported (Ok b) = record { answer = 0; made = b }
+reported (Err x) = record { answer = number x; made = zero_box }

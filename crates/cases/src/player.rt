@@ -84,7 +84,7 @@ impl Player {
     }
 
     fn byte(&mut self, n: u8) -> Said {
-        let called = guard::byte(self.unit, &mut self.lent, self.part, n);
+        let called = guard::byte(&self.unit, &mut self.lent, self.part, n);
         self.unit = called.next;
         called.said
     }
@@ -106,7 +106,7 @@ impl Player {
     }
 
     fn tick(&mut self) -> Said {
-        let called = guard::tick(self.unit, &mut self.lent, self.part);
+        let called = guard::tick(&self.unit, &mut self.lent, self.part);
         self.unit = called.next;
         called.said
     }
@@ -126,7 +126,7 @@ impl Player {
     }
 
     fn read(&self, rt: &impl Print, out: &mut [u8]) -> io::Result<()> {
-        let read = guard::readout(self.unit, &self.lent, self.part, out);
+        let read = guard::readout(&self.unit, &self.lent, self.part, out);
         let copied = Copied {
             answer: read.answer,
             bytes: &out[..read.used as usize],

@@ -1,7 +1,7 @@
 -- Demand 1. Assumes nothing.
 use Prim.Native.Nat.{ℕ, ◌≤◌}
 use mathlib.Core.Bool.{true, not}
-use mathlib.Core.Path.{◌≡◌, refl, ◌∙◌}
+use mathlib.Core.Path.{◌≡◌, refl, ◌∙◌, sym}
 use mathlib.Core.List.{List, [], ◌∷◌}
 use lib.Dec.{ltb, eqb}
 use lib.ListN.{length, drop, length-append, length-drop}
@@ -54,7 +54,7 @@ module _ (b : Box) (buf : List ℕ) (at : Part) (c : Call) (bytes : length b.par
   call_keeps =
       either_way (eqb (refusal_of b buf at) 0)
       (λ e.
-      let good = good_taken b (ready_answer buf at b.ring) (refusal_of b buf at) refl (eqb-true (refusal_of b buf at) 0 e) in
+      let good = good_taken b (ready_answer buf at b.ring) (sym (eqb-true (refusal_of b buf at) 0 e)) in
       record {
         size = rw e (filed_size at b.ring buf x.records);
         outside = rw e (filed_outside at b.ring buf x.records);

@@ -25,7 +25,12 @@ pub fn on_update(b: &Box, entries: [Setting; 8]) -> Decided
 {
     let settings = judgement::place(b.core.run.list.stim, entries);
     match judgement::judge_update(b.profile, b.core, settings) {
-        Ok(()) => decided::tell(b.clock, idents::UPDATE, Ok(()), cores::wait(&b.core, settings)),
+        Ok(()) => decided::tell(
+            b.clock,
+            idents::UPDATE,
+            Ok(()),
+            cores::wait(&b.core, settings),
+        ),
         Err(refusal) => decided::drop_frame(b.clock, idents::UPDATE, refusal, &b.core),
     }
 }

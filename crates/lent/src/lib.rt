@@ -16,7 +16,7 @@ pub extern "C" fn yarrowbell_byte_in_place(b: &mut Box, buf: &mut [u8], at: Part
         × (b.new ≡ (call_of b.old buf.old at (byte n)).called.next)
         × (buf.new ≡ (call_of b.old buf.old at (byte n)).buf) }
 {
-    let t = guard::byte(*b, buf, at, n);
+    let t = guard::byte(b, buf, at, n);
     *b = t.next;
     t.said
 }
@@ -27,7 +27,7 @@ pub extern "C" fn yarrowbell_tick_in_place(b: &mut Box, buf: &mut [u8], at: Part
         × (b.new ≡ (call_of b.old buf.old at tick).called.next)
         × (buf.new ≡ (call_of b.old buf.old at tick).buf) }
 {
-    let t = guard::tick(*b, buf, at);
+    let t = guard::tick(b, buf, at);
     *b = t.next;
     t.said
 }

@@ -1,7 +1,7 @@
 -- The ways that a call on any box record goes. Assumes nothing.
 use Prim.Native.Nat.{ℕ}
 use mathlib.Core.Bool.{Bool, true, ◌&&◌}
-use mathlib.Core.Path.{◌≡◌, refl}
+use mathlib.Core.Path.{◌≡◌, refl, sym}
 use mathlib.Core.List.{List}
 use lib.Dec.{eqb}
 use borrow.Author.Tests.{eqb-true}
@@ -27,7 +27,7 @@ module _ (b : Box) (buf : List ℕ) (at : Part) where
       either_way (eqb (refusal_of b buf at) 0)
       (λ e.
       let z = eqb-true (refusal_of b buf at) 0 e in
-      let g = good_taken b (ready_answer buf at b.ring) (refusal_of b buf at) refl z in
+      let g = good_taken b (ready_answer buf at b.ring) (sym z) in
       rw e (takes g (rw g at z)))
       (λ e. rw e refuses)
 
