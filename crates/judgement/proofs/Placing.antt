@@ -1,8 +1,8 @@
 -- An Update's entries at their channels: a turn of the loop over the channels, and its end. Assumes nothing.
 use Prim.Native.Nat.{ℕ, suc, ◌+◌, ◌-◌, ◌<◌}
-use mathlib.Core.Bool.{cond}
-use mathlib.Core.Path.{◌≡◌, ap, ◌∙◌}
-use mathlib.Core.List.{List, ◌++◌, append_assoc, append-nil}
+use mathlib.Core.Bool.{cond, true, false}
+use mathlib.Core.Path.{◌≡◌, sym, ◌∙◌}
+use mathlib.Core.List.{List, [], ◌∷◌, ◌++◌, append_assoc, append-nil}
 use native.Mathlib.Omega.{arith}
 use native.Mathlib.Numerals.{add-one}
 use lib.ListN.{get_or, set, replicate}
@@ -21,11 +21,20 @@ module _ (stim : ℕ) (entries : List Setting) where
   abbrev pub placed_to : ℕ → List Setting
   placed_to i = row_below i setting ++ replicate (8 - i) no_setting
 
-  pub place_turn : (settings : List Setting) (i : ℕ) → i < 8 → settings ≡ placed_to i → set settings i (setting i) ≡ placed_to (i + 1)
-  place_turn settings i h e =
-      let left : 8 - i ≡ suc (8 - (i + 1)) = omega arith in
-      ap (λ (l : List Setting). set l i (setting i)) e
-      ∙ rw (left, add-one) (set_at (row_below i setting) no_setting (replicate (8 - suc i) no_setting) (setting i) i (row_length i setting) ∙ rw append_assoc)
+  -- a listed channel is set, another stays zero
+  module _ (settings : List Setting) (i : ℕ) (h : i < 8) (placed_so_far : settings ≡ placed_to i) where
+    left : 8 - i ≡ suc (8 - (i + 1))
+    left = omega arith
+
+    pub place_listed : (next : ℕ) → next ≡ many stim 0 i → in_set stim i ≡ true → set settings i (get_or entries next no_setting) ≡ placed_to (i + 1)
+    place_listed next n e =
+        let here : get_or entries next no_setting ≡ setting i = rw (n, e) in
+        rw (here, placed_so_far, left, add-one)
+        (set_at (row_below i setting) no_setting (replicate (8 - suc i) no_setting) (setting i) i (row_length i setting) ∙ rw append_assoc)
+
+    pub place_rest : in_set stim i ≡ false → settings ≡ placed_to (i + 1)
+    place_rest e =
+        rw (placed_so_far, left, add-one, e) (sym (append_assoc (row_below i setting) (no_setting ∷ []) (replicate (8 - suc i) no_setting)))
 
   pub place_end : (settings : List Setting) → settings ≡ placed_to 8 → settings ≡ placed stim entries
   unfolding placed

@@ -28,38 +28,17 @@ pub fn judge_init(p: Profile, v: Init) -> Result<(), Refusal>
     Ok(())
 }
 
-// The next entry for a listed channel, zero for any other.
-fn entry_for(listed: bool, entries: [Setting; 8], next: usize) -> Setting
-    requires { next < 8 }
-    ensures { result ≡ cond listed (get_or entries next no_setting) no_setting }
-{
-    if listed {
-        return entries[next];
-    }
-    commands::NO_SETTING
-}
-
-// Which entry is next behind this channel.
-fn entry_after(next: usize, listed: bool) -> usize
-    requires { next < 8 }
-    ensures { (result ≡ next + cond listed 1 0) × (result ≤ next + 1) }
-{
-    if listed { next + 1 } else { next }
-}
-
 // An Update's entries at their channels.
 pub fn place(stim: u8, entries: [Setting; 8]) -> [Setting; 8]
     ensures { result ≡ placed stim entries }
 {
     let mut settings = model::SILENCE;
     let mut next = 0;
-    let mut i = 0;
-    while i < 8 {
-        let listed = timing::listed(stim, i);
-        let x = entry_for(listed, entries, next);
-        settings[i] = x;
-        next = entry_after(next, listed);
-        i += 1;
+    for i in 0..settings.len() {
+        if timing::listed(stim, i) {
+            settings[i] = entries[next];
+            next += 1;
+        }
     }
     settings
 }
@@ -68,7 +47,7 @@ pub fn place(stim: u8, entries: [Setting; 8]) -> [Setting; 8]
 pub fn judge_update(p: Profile, m: Core, settings: [Setting; 8]) -> Result<(), Refusal>
     ensures { answer result ≡ first_of (6 when not (is_running m) ∷ 5 when not (update_timing m.run.list settings) ∷ 9 when over_limits p settings ∷ []) }
 {
-    if m.state != model::RUNNING {
+    if !m.is_running() {
         return Err(Refusal::NoList);
     }
     if !timing::update_timing(m.run.list, settings) {
@@ -86,13 +65,12 @@ fn single_settings(v: Single) -> [Setting; 8]
 {
     let mut settings = model::SILENCE;
     let channel = v.channel as usize;
-    if channel < 8 {
+    if channel < settings.len() {
         settings[channel] = Setting {
             mode: 0,
             width: v.width,
             current: v.current,
         };
-        return settings;
     }
     settings
 }
@@ -110,7 +88,7 @@ fn hold_of(m: Core, channel: u8) -> u8
 pub fn judge_single(p: Profile, m: Core, v: Single) -> Result<(), Refusal>
     ensures { answer result ≡ first_of (7 when is_running m ∷ 8 when ltb 0 (hold_of m v.channel) ∷ 9 when over_limits p (set silence v.channel (record { mode = 0; width = v.width; current = v.current })) ∷ []) }
 {
-    if m.state == model::RUNNING {
+    if m.is_running() {
         return Err(Refusal::ListRuns);
     }
     if 0 < hold_of(m, v.channel) {

@@ -12,48 +12,33 @@ use model::Profile;
 fn good_limits(p: Profile) -> bool
     ensures { result ≡ all_below 8 (good_limits p) }
 {
-    let currents = p.currents;
-    let widths = p.widths;
-    let mut good = true;
-    let mut i = 0;
-    while i < 8 {
-        good = good & ((currents[i] <= 127) & (widths[i] <= 500));
-        i += 1;
-    }
-    good
+    p.currents.iter().all(|x| *x <= 127) & p.widths.iter().all(|x| *x <= 500)
 }
 
 // Whether each number of a profile is in its range.
+#[tactic(auto, unfolding(model::specs::Profiles::good_profile))]
 pub fn good_profile(p: Profile) -> bool
     ensures { result ≡ good_profile p }
 {
     good_limits(p)
         & (p.charge <= 63500)
-        & ((30 <= p.shortest) & (p.shortest <= 10235))
-        & ((1 <= p.watchdog) & (p.watchdog <= 600000))
+        & (30..=10235).contains(&p.shortest)
+        & (1..=600000).contains(&p.watchdog)
 }
 
 // Current, width or charge of one channel.
+#[tactic(auto, unfolding(model::specs::Profiles::over_at))]
 fn over_at(p: Profile, i: usize, x: Setting) -> bool
     requires { i < 8 }
     ensures { result ≡ over_at p i x }
 {
-    let currents = p.currents;
-    let widths = p.widths;
-    let charge = (x.current as u32) * (x.width as u32);
-    (currents[i] < x.current) | (widths[i] < x.width) | (p.charge < charge)
+    let charge = x.current as u32 * x.width as u32;
+    (p.currents[i] < x.current) | (p.widths[i] < x.width) | (p.charge < charge)
 }
 
 // Whether one of the eight channels' settings is over a limit.
 pub fn over_limits(p: Profile, settings: [Setting; 8]) -> bool
     ensures { result ≡ over_limits p settings }
 {
-    let mut over = false;
-    let mut i = 0;
-    while i < 8 {
-        let x = settings[i];
-        over = over | over_at(p, i, x);
-        i += 1;
-    }
-    over
+    settings.iter().enumerate().any(|(i, x)| over_at(p, i, *x))
 }

@@ -2,6 +2,7 @@ pub mod Tests
 pub mod States
 pub mod Below
 pub mod Turns
+pub mod Rows
 pub mod GoodRuns
 pub mod GoodStates
 pub mod Settings

@@ -1,10 +1,11 @@
 // Document 01's machine, "Profile" and "The machine": its numbers. Its rules stand in specs/ as definitions, and what follows from
-// them in proofs/. The only functions here are those of a module. The fields' order and width leave no byte between them, as the
-// structs cross the boundary.
+// them in proofs/. The only functions here are those of a module and of the state. The fields' order and width leave no byte between
+// them, as the structs cross the boundary.
 #![tactic(auto)]
 
 ghost use Rattle.std.specs.Prelude.{◌≡◌};
 ghost use Rattle.model.specs.Modules.{module_of, first, offset};
+ghost use Rattle.model.specs.State.{is_running, is_tripped};
 
 use commands::{Init, Setting};
 
@@ -21,7 +22,7 @@ pub struct Profile {
 
 // What a running list has, all zero while the box is not running. An update waits where `waits` is 1; `watch` is the watchdog count.
 #[repr(C)]
-#[derive(Clone, Copy)]
+#[derive(Clone, Copy, PartialEq, Eq)]
 pub struct Run {
     pub list: Init,
     pub position: u16,
@@ -46,7 +47,7 @@ pub const STILL: Run = Run {
     waiting: SILENCE,
 };
 
-// The states.
+// The states. A number above counts as tripped: a core that comes over the C boundary may have any, and its layout stays (`Core`).
 pub const IDLE: u16 = 0;
 
 pub const RUNNING: u16 = 1;
@@ -107,4 +108,18 @@ pub struct Core {
     pub holdb: u8,
     pub state: u16,
     pub run: Run,
+}
+
+impl Core {
+    pub fn is_running(&self) -> bool
+        ensures { result ≡ is_running self.now }
+    {
+        self.state == RUNNING
+    }
+
+    pub fn is_tripped(&self) -> bool
+        ensures { result ≡ is_tripped self.now }
+    {
+        TRIPPED <= self.state
+    }
 }

@@ -1,25 +1,20 @@
--- Laws of the bytes not in use: a turn of the loop over them, its end, and that they are zeros. Assumes nothing.
-use Prim.Native.Nat.{ℕ, zero, suc, ◌+◌, ◌≤◌, ◌<◌}
-use mathlib.Core.Bool.{true, ◌&&◌}
+-- Laws of the bytes not in use: each is zero, and they are so many zeros. Assumes nothing.
+use Prim.Native.Nat.{ℕ, zero, suc}
+use mathlib.Core.Bool.{true}
 use mathlib.Core.Path.{◌≡◌, refl, ap}
 use mathlib.Core.List.{List, [], ◌∷◌}
-use native.Mathlib.Numerals.{add-one}
 use lib.Dec.{eqb}
-use lib.ListN.{length, get_or, drop, replicate, drop_of_length-le}
-use lib.Seq.{drop-cons}
+use lib.ListN.{length, replicate}
 use borrow.Author.Tests.{eqb-true}
+use Rattle.std.specs.List.{list_all}
 use Rattle.commands.proofs.Tests.{both}
 use Rattle.partial.specs.Partial.{zeros}
 
--- the bytes from place i on
-module _ (bytes : List ℕ) (i : ℕ) where
-  pub zero_turn : i < length bytes → zeros (drop i bytes) ≡ eqb (get_or bytes i 0) 0 && zeros (drop (i + 1) bytes)
-  unfolding zeros
-  zero_turn h = rw (drop-cons bytes i 0 h, add-one i)
-
-  pub zero_end : length bytes ≤ i → zeros (drop i bytes) ≡ true
-  unfolding zeros
-  zero_end h = rw (drop_of_length-le bytes h)
+-- each of them is zero
+pub zeros_all : (bytes : List ℕ) → list_all (λ b. eqb b 0) bytes ≡ zeros bytes
+unfolding zeros
+zeros_all [] = refl
+zeros_all (b ∷ bytes) = rw (zeros_all bytes)
 
 -- zero bytes are so many zeros, and back
 pub zeros_are : (bytes : List ℕ) → zeros bytes ≡ true → replicate (length bytes) 0 ≡ bytes

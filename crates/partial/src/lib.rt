@@ -27,29 +27,23 @@ pub const NO_FRAME: PartialFrame = PartialFrame {
 fn good_update_size(m: Core, size: usize) -> bool
     ensures { result ≡ good_update_size m size }
 {
-    if m.state == model::IDLE {
-        return false;
-    }
-    if m.state == model::RUNNING {
+    if m.is_running() {
         return size == sizes::FIRST + sizes::ENTRY * timing::channels(m.run.list.stim);
     }
-    ((4 <= size) & (size <= 25)) & (size % 3 == 1)
+    m.is_tripped() & (4..=25).contains(&size) & (size % 3 == 1)
 }
 
 // A kept length, by the frame's Ident.
+#[tactic(auto, unfolding(model::specs::Good::good_size))]
 fn good_size(m: Core, ident: u8, size: usize) -> bool
     ensures { result ≡ good_size m ident size }
 {
-    if ident == idents::UPDATE {
-        return good_update_size(m, size);
+    match ident {
+        idents::UPDATE => good_update_size(m, size),
+        idents::INIT => size == sizes::INIT,
+        idents::STOP => size == sizes::STOP,
+        _ => size == sizes::SINGLE,
     }
-    if ident == idents::INIT {
-        return size == sizes::INIT;
-    }
-    if ident == idents::STOP {
-        return size == sizes::STOP;
-    }
-    size == sizes::SINGLE
 }
 
 // The bytes behind the first, up to the n-th, are low.
@@ -66,14 +60,7 @@ fn rest_zero(bytes: [u8; 25], n: usize) -> bool
     requires { n ≤ 25 }
     ensures { result ≡ zeros (drop n bytes) }
 {
-    let mut i = n;
-    while i < 25 {
-        if 0 < bytes[i] {
-            return false;
-        }
-        i += 1;
-    }
-    true
+    bytes[n..].iter().all(|b| *b == 0)
 }
 
 // The bytes in use: none, and no length is kept, or an open frame.
@@ -86,22 +73,18 @@ fn good_used(m: Core, q: PartialFrame) -> bool
     if len == 0 {
         return kept == 0;
     }
-    let bytes = q.bytes;
-    let first = bytes[0];
+    let first = q.bytes[0];
     bits::is_high(first)
-        & all_low(bytes, len)
+        & all_low(q.bytes, len)
         & (len < kept)
         & good_size(m, frames::ident_of(first), kept)
 }
 
 // Bytes not in use are zero, and those in use are a good partial frame.
+#[tactic(auto, unfolding(crate::specs::Partial::unused_zero))]
 pub fn good_partial(m: Core, q: PartialFrame) -> bool
     ensures { result ≡ unused_zero q && good_partial m q.kept (take q.len q.bytes) }
 {
     let len = q.len as usize;
-    if len <= 25 {
-        let bytes = q.bytes;
-        return rest_zero(bytes, len) & good_used(m, q);
-    }
-    false
+    len <= 25 && rest_zero(q.bytes, len) & good_used(m, q)
 }

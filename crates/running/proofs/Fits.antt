@@ -14,14 +14,10 @@ use Rattle.model.specs.Channels.{in_set}
 use Rattle.model.specs.Timing.{update_timing}
 use Rattle.model.specs.Profiles.{over_limits}
 use Rattle.model.specs.Good.{all_good, only_listed}
-use Rattle.model.proofs.Tests.{crossed, each}
+use Rattle.model.proofs.Rows.{all_both}
+use Rattle.model.proofs.Tests.{each}
 use Rattle.model.proofs.Settings.{Fits}
 use Rattle.running.specs.Core.{good_at, fits}
-
--- two tests at each number: the one at all, and the other at all
-all_both : (n : ℕ) (f g : ℕ → Bool) → all_below n (λ i. f i && g i) ≡ all_below n f && all_below n g
-all_both zero f g = refl
-all_both (suc n) f g = rw (all_both n f g) (crossed (all_below n f) (all_below n g) (f n) (g n))
 
 module _ (p : Profile) (v : Init) (settings : List Setting) where
   pub fits_at : fits p v settings

@@ -1,3 +1,4 @@
 pub mod Fits
+pub mod Silence
 pub mod Waits
 pub mod Parts

@@ -7,7 +7,7 @@ ghost use Rattle.commands.specs.Commands.{no_setting};
 ghost use Rattle.model.specs.Below.{all_below};
 ghost use Rattle.model.specs.State.{is_running};
 ghost use Rattle.model.specs.Timing.{init_timing};
-ghost use Rattle.model.specs.Good.{good_list, all_zero, zero_list, zero_run};
+ghost use Rattle.model.specs.Good.{good_list, all_zero, zero_run};
 ghost use Rattle.running.specs.Core.{good_at, fits, waiting_fits, good_run, good_core};
 
 use commands::{Init, Setting};
@@ -22,14 +22,7 @@ fn good_list(v: Init) -> bool
 fn all_zero(settings: [Setting; 8]) -> bool
     ensures { result ≡ all_zero settings }
 {
-    let mut zero = true;
-    let mut i = 0;
-    while i < 8 {
-        let x = settings[i];
-        zero = zero & commands::is_zero(x);
-        i += 1;
-    }
-    zero
+    settings == model::SILENCE
 }
 
 // Good, and zero where the channel is not listed.
@@ -42,14 +35,10 @@ fn good_at(stim: u8, i: usize, x: Setting) -> bool
 fn all_good(stim: u8, settings: [Setting; 8]) -> bool
     ensures { result ≡ all_below 8 (λ i. good_at stim i (get_or settings i no_setting)) }
 {
-    let mut good = true;
-    let mut i = 0;
-    while i < 8 {
-        let x = settings[i];
-        good = good & good_at(stim, i, x);
-        i += 1;
-    }
-    good
+    settings
+        .iter()
+        .enumerate()
+        .all(|(i, x)| good_at(stim, i, *x))
 }
 
 fn fit(p: Profile, v: Init, settings: [Setting; 8]) -> bool
@@ -74,48 +63,31 @@ fn good_run(p: Profile, clock: u32, r: Run) -> bool
     ensures { result ≡ good_run p clock r }
 {
     let v = r.list;
-    let settings = r.settings;
-    let waiting = r.waiting;
     let period = timing::main_period(v.main);
     good_list(v)
         & timing::init_timing(v)
         & (p.shortest <= period)
-        & fit(p, v, settings)
-        & good_waiting(p, v, r.waits, waiting)
+        & fit(p, v, r.settings)
+        & good_waiting(p, v, r.waits, r.waiting)
         & ((r.position as u32) < period)
         & (r.cycle <= clock)
         & (r.watch < p.watchdog)
 }
 
-fn zero_list(v: Init) -> bool
-    ensures { result ≡ zero_list v }
-{
-    (v.factor == 0) & (v.stim == 0) & (v.lf == 0) & (v.group == 0) & (v.main == 0)
-}
-
 fn zero_run(r: Run) -> bool
     ensures { result ≡ zero_run r }
 {
-    let v = r.list;
-    let settings = r.settings;
-    let waiting = r.waiting;
-    zero_list(v)
-        & all_zero(settings)
-        & (r.waits == 0)
-        & all_zero(waiting)
-        & (r.position == 0)
-        & (r.cycle == 0)
-        & (r.watch == 0)
+    r == model::STILL
 }
 
 fn good_by_state(p: Profile, clock: u32, m: Core) -> bool
     ensures { result ≡ cond (is_running m) (good_run p clock m.run) (zero_run m.run) }
 {
-    let r = m.run;
-    if m.state == model::RUNNING {
-        return good_run(p, clock, r);
+    if m.is_running() {
+        good_run(p, clock, m.run)
+    } else {
+        zero_run(m.run)
     }
-    zero_run(r)
 }
 
 // The holds, the state, and the run that belongs to it.

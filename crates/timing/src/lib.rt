@@ -1,13 +1,14 @@
 // Channel counts, periods and the timing rules.
 #![tactic(auto)]
 
-ghost use Rattle.std.specs.Prelude.{◌≡◌, ◌+◌, ◌≤◌, max};
+ghost use Rattle.std.specs.Prelude.{◌≡◌, ◌+◌, ◌≤◌};
 ghost use Rattle.model.specs.Channels.{in_set, many, channels};
 ghost use Rattle.model.specs.Timing.{t1, t2, keeps_modules, keeps_main, largest_mode, init_timing, update_timing};
 
 use commands::{Init, Setting};
 
 // Whether channel i, counted from 0, is in a set.
+#[tactic(auto, unfolding(model::specs::Channels::in_set))]
 pub fn listed(set: u8, i: usize) -> bool
     ensures { result ≡ in_set set i }
 {
@@ -19,15 +20,7 @@ fn count_in(set: u8, first: usize, n: usize) -> usize
     requires { first + n ≤ 8 }
     ensures { (result ≡ many set first n) × (result ≤ n) }
 {
-    let mut count = 0;
-    let mut i = 0;
-    while i < n {
-        if listed(set, first + i) {
-            count += 1;
-        }
-        i += 1;
-    }
-    count
+    (first..first + n).filter(|i| listed(set, *i)).count()
 }
 
 // How many channels a list has.
@@ -38,29 +31,26 @@ pub fn channels(stim: u8) -> usize
 }
 
 // t1, in tenths of a millisecond.
+#[tactic(auto, unfolding(model::specs::Timing::t1))]
 pub fn main_period(main: u16) -> u32
     ensures { result ≡ t1 main }
 {
-    5 * (main as u32) + 10
+    5 * main as u32 + 10
 }
 
 // t2, in tenths of a millisecond.
+#[tactic(auto, unfolding(model::specs::Timing::t2))]
 pub fn group_period(group: u8) -> u32
     ensures { (result ≡ t2 group) × (result ≤ 1290) }
 {
-    5 * (group as u32) + 15
+    5 * group as u32 + 15
 }
 
-fn larger(a: usize, b: usize) -> usize
-    ensures { result ≡ max a b }
-{
-    if a <= b { b } else { a }
-}
-
+#[tactic(auto, unfolding(model::specs::Timing::keeps_modules))]
 fn keeps_modules(v: Init) -> bool
     ensures { result ≡ keeps_modules v }
 {
-    let most = larger(count_in(v.stim, 0, 4), count_in(v.stim, 4, 4));
+    let most = count_in(v.stim, 0, 4).max(count_in(v.stim, 4, 4));
     15 * most <= group_period(v.group) as usize
 }
 
@@ -75,22 +65,13 @@ fn keeps_main(v: Init, mode: u8) -> bool
 pub fn init_timing(v: Init) -> bool
     ensures { result ≡ init_timing v }
 {
-    keeps_modules(v) & keeps_main(v, 0)
+    keeps_modules(v) && keeps_main(v, 0)
 }
 
 fn largest_mode(settings: [Setting; 8]) -> u8
     ensures { result ≡ largest_mode settings }
 {
-    let mut most: u8 = 0;
-    let mut i = 0;
-    while i < 8 {
-        let x = settings[i];
-        if most < x.mode {
-            most = x.mode;
-        }
-        i += 1;
-    }
-    most
+    settings.iter().map(|x| x.mode).max().unwrap_or(0)
 }
 
 // Whether settings keep the second rule of the list.

@@ -1,9 +1,7 @@
 use Prim.Native.Nat.{◌≤◌}
-use mathlib.Core.Path.{refl}
 use native.Mathlib.Nat.{mul-le-mul}
 use native.Mathlib.Omega.{arith}
 use borrow.Author.Rules.{rules}
-use Rattle.model.specs.Profiles.{over_at}
 use Rattle.limits.proofs.over_at.Goals as goal
 
 pub overflow_mul-charge : goal.overflow_mul-charge
@@ -12,7 +10,3 @@ overflow_mul-charge c =
     let a : x.current ≤ 255 = search rules in
     let b : x.width ≤ 65535 = search rules in
     omega (arith, mul-le-mul a b)
-
-pub returns : goal.returns
-unfolding over_at
-returns c = refl

@@ -1,21 +1,19 @@
--- The test so far is that of the channels passed.
-use mathlib.Core.Path.{◌≡◌}
-use native.Mathlib.Omega.{arith}
-use lib.ListN.{get_or}
-use borrow.Author.Rules.{rules}
+use Rattle.std.proofs.Common.{◌≡◌, ℕ, Bool, refl, rules, tests, ◌∙◌}
+use Rattle.std.proofs.lemmas.Iterator.{YieldsList-from_slice}
+use Rattle.std.proofs.lemmas.Iterator.Consumers.{YieldsList-from_enumerate}
+use Rattle.std.proofs.lemmas.Iterator.Search.{any_from_yields_List}
+use Rattle.std.specs.List.{list_any, enumerate_from}
+use Rattle.commands.specs.declared.Setting.{Setting}
 use Rattle.commands.specs.Commands.{no_setting}
 use Rattle.model.specs.Profiles.{over_at, over_limits}
-use Rattle.model.proofs.Turns.{some_turn}
+use Rattle.model.proofs.Rows.{some_placed}
 use Rattle.limits.proofs.over_limits.Goals as goal
-
-pub loop-i-preserved : goal.loop-i-preserved
-loop-i-preserved c =
-    let l = c.loop-i in
-    let a = c.args in
-    (search rules, rw (some_turn l.i (λ k. over_at a.p k (get_or a.settings k no_setting)), l.invariant.1, c.over_at-over.ensures))
 
 pub returns : goal.returns
 unfolding over_limits
 returns c =
-    let e : c.loop-i.i ≡ 8 = omega arith in
-    rw e at c.loop-i.invariant.1
+    let a = c.args in
+    let test : ℕ × Setting → Bool = λ x. over_at a.p x.0 x.1 in
+    let any : c.any.result ≡ list_any test (enumerate_from 0 a.settings) =
+    any_from_yields_List test _ _ _ c.any.ensures.ran (YieldsList-from_enumerate (YieldsList-from_slice a.settings cc) cc) (λ x b q k. search (rules, tests)) in
+    any ∙ some_placed no_setting test _ a.settings 8 (search rules) (λ i. refl)

@@ -1,24 +1,16 @@
--- The bytes that are left are zero exactly if all of them are.
-use mathlib.Core.Path.{sym, ◌∙◌}
-use native.Mathlib.Omega.{arith}
-use lib.ListN.{get_or}
-use borrow.Author.Tests.{eq-eqb, ne_eqb}
-use Rattle.partial.proofs.Zeros.{zero_turn, zero_end}
+use Rattle.std.proofs.Common.{◌≡◌, eqb, length, drop, rules, tests, ◌∙◌}
+use Rattle.std.proofs.lemmas.Iterator.{YieldsList-from_slice}
+use Rattle.std.proofs.lemmas.Iterator.Search.{all_from_yields_List}
+use Rattle.std.proofs.lemmas.List.{take_rest}
+use Rattle.std.specs.List.{list_all}
+use Rattle.partial.proofs.Zeros.{zeros_all}
 use Rattle.partial.proofs.rest_zero.Goals as goal
-
-pub returns-then-bytes-i-gt0 : goal.returns-then-bytes-i-gt0
-returns-then-bytes-i-gt0 c =
-    let i = c.loop-i in
-    let t = zero_turn c.args.bytes i.i (omega (arith, c.well_formed)) in
-    sym (i.invariant.1 ∙ rw (ne_eqb (get_or c.args.bytes i.i 0) 0 (λ e. omega arith)) at t)
-
-pub loop-i-preserved : goal.loop-i-preserved
-loop-i-preserved c =
-    let i = c.loop-i in
-    let t = zero_turn c.args.bytes i.i (omega (arith, c.well_formed)) in
-    (omega arith, i.invariant.1 ∙ rw (eq-eqb (get_or c.args.bytes i.i 0) 0 (omega arith)) at t)
 
 pub returns : goal.returns
 returns c =
-    let i = c.loop-i in
-    sym (i.invariant.1 ∙ zero_end c.args.bytes i.i (omega (arith, c.well_formed)))
+    let a = c.args in
+    let sized : length a.bytes ≡ 25 = search rules in
+    let rest = rw sized at (take_rest a.bytes a.n) in
+    let all : c.all.result ≡ list_all (λ b. eqb b 0) (drop a.n a.bytes) =
+    all_from_yields_List (λ b. eqb b 0) _ _ _ c.all.ensures.ran (YieldsList-from_slice _ (c.iter.ensures.rest ∙ rest)) (λ x b q k. search (rules, tests)) in
+    all ∙ zeros_all _

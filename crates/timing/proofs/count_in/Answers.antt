@@ -1,28 +1,17 @@
--- The count so far is that of the channels passed.
-use mathlib.Core.Bool.{true, false}
-use mathlib.Core.Path.{◌≡◌, sym, ◌∙◌}
-use native.Mathlib.Omega.{arith}
-use borrow.Author.Rules.{rules}
-use Rattle.model.specs.Channels.{many}
-use Rattle.model.proofs.Turns.{many_turn}
+use Rattle.std.proofs.Common.{◌≡◌, length, rules, tests, arith, ◌∙◌}
+use Rattle.std.proofs.lemmas.Iterator.{YieldsList-from_range}
+use Rattle.std.proofs.lemmas.Iterator.Consumers.{YieldsList-from_filter, count_from_yields_List}
+use Rattle.std.specs.List.{filter, range_with_len}
+use Rattle.model.specs.Channels.{in_set}
+use Rattle.model.proofs.Turns.{many_most}
+use Rattle.model.proofs.Rows.{many_listed}
 use Rattle.timing.proofs.count_in.Goals as goal
-use Rattle.timing.proofs.count_in.Goals.{then-listed, else-listed}
-
-pub loop-i-init : goal.loop-i-init
-unfolding many
-loop-i-init c = search rules
-
-pub loop-i-preserved : goal.loop-i-preserved
-loop-i-preserved c =
-    let a = c.args in
-    let turn = many_turn c.loop-i.i a.set a.first in
-    let here = c.listed.ensures in
-    elim c.if-listed.branch [
-      | then-listed w ↦ omega (arith, turn true (sym w.if-listed.true ∙ here))
-      | else-listed w ↦ omega (arith, turn false (sym w.if-listed.false ∙ here))
-    ]
 
 pub returns : goal.returns
 returns c =
-    let e : c.loop-i.i ≡ c.args.n = omega arith in
-    (rw e at c.loop-i.invariant.1, omega arith)
+    let a = c.args in
+    let count : c.count.result ≡ length (filter (in_set a.set) (range_with_len a.first a.n)) =
+    count_from_yields_List c.filter.result _ c.count.ensures.ran
+    (YieldsList-from_filter _ _ (YieldsList-from_range a.first _ a.n c.filter.ensures.source (omega arith)) c.filter.ensures.closure (λ x r q k. search (rules, tests))) in
+    let e = count ∙ many_listed a.set a.first a.n in
+    (e, omega (arith, many_most a.set a.first a.n))
