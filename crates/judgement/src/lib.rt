@@ -34,6 +34,7 @@ pub fn place(stim: u8, entries: [Setting; 8]) -> [Setting; 8]
 {
     let mut settings = model::SILENCE;
     let mut next = 0;
+    // By index: from `iter_mut` the proof does not learn that a setting not written stays.
     for i in 0..settings.len() {
         if timing::listed(stim, i) {
             settings[i] = entries[next];
@@ -65,6 +66,7 @@ fn single_settings(v: Single) -> [Setting; 8]
 {
     let mut settings = model::SILENCE;
     let channel = v.channel as usize;
+    // Not by `get_mut`: the proof does not learn what the array is after it.
     if channel < settings.len() {
         settings[channel] = Setting {
             mode: 0,

@@ -13,12 +13,6 @@ not_running zero still running n = refl
 not_running (suc zero) still running n = absurd (n refl)
 not_running (suc (suc k)) still running n = refl
 
--- neither idle nor running: tripped
-pub when_tripped : {A : Type 0} (k : ℕ) (idle running tripped : A) → (k ≡ 0 → ⊥) → (k ≡ 1 → ⊥) → by_state k idle running tripped ≡ tripped
-when_tripped zero idle running tripped n m = absurd (n refl)
-when_tripped (suc zero) idle running tripped n m = absurd (m refl)
-when_tripped (suc (suc k)) idle running tripped n m = refl
-
 -- a state from 2 on is that of a tripped box
 pub tripped_is : (k : ℕ) → leb 2 k ≡ by_state k false false true
 tripped_is zero = refl

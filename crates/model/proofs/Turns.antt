@@ -1,22 +1,16 @@
--- Laws of tests, counts and maxima over the channels, one after the other: what one turn of a loop adds. Assumes nothing.
-use Prim.Native.Nat.{ℕ, zero, suc, ◌+◌, ◌≤◌, max}
-use mathlib.Core.Bool.{Bool, true, false, cond, ◌&&◌, ◌||◌}
+-- Laws of tests and counts over the channels, one after the other: what one turn of a loop adds. Assumes nothing.
+use Prim.Native.Nat.{ℕ, zero, suc, ◌+◌, ◌≤◌}
+use mathlib.Core.Bool.{Bool, true, false, cond, ◌||◌}
 use mathlib.Core.Path.{◌≡◌}
 use native.Mathlib.Omega.{arith}
 use native.Mathlib.Numerals.{add-one}
-use Rattle.model.specs.Below.{all_below, some_below, most_below}
+use Rattle.model.specs.Below.{some_below}
 use Rattle.model.specs.Channels.{in_set, many}
 
 -- one number more
 module _ (n : ℕ) where
-  pub all_turn : (f : ℕ → Bool) → all_below (n + 1) f ≡ all_below n f && f n
-  all_turn f = rw add-one
-
   pub some_turn : (f : ℕ → Bool) → some_below (n + 1) f ≡ some_below n f || f n
   some_turn f = rw add-one
-
-  pub most_turn : (f : ℕ → ℕ) → most_below (n + 1) f ≡ max (most_below n f) (f n)
-  most_turn f = rw add-one
 
   pub many_turn : (set first : ℕ) (listed : Bool) → listed ≡ in_set set (first + n) → many set first (n + 1) ≡ many set first n + cond listed 1 0
   unfolding many

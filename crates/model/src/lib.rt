@@ -10,6 +10,7 @@ ghost use Rattle.model.specs.State.{is_running, is_tripped};
 use commands::{Init, Setting};
 
 // The largest current and width of each channel, the largest charge, the shortest t1 and the watchdog.
+// Two arrays side by side, as the C struct has them.
 #[repr(C)]
 #[derive(Clone, Copy)]
 pub struct Profile {
@@ -21,6 +22,7 @@ pub struct Profile {
 }
 
 // What a running list has, all zero while the box is not running. An update waits where `waits` is 1; `watch` is the watchdog count.
+// A flag and settings beside it, as the C struct has them.
 #[repr(C)]
 #[derive(Clone, Copy, PartialEq, Eq)]
 pub struct Run {

@@ -1,29 +1,19 @@
 -- Laws of the test of a partial frame. Assumes nothing.
-use Prim.Native.Nat.{ℕ, ◌+◌, ◌*◌, ◌%◌, ◌≤◌, ◌<◌}
-use mathlib.Core.Bool.{false, ◌&&◌}
+use Prim.Native.Nat.{ℕ, ◌≤◌, ◌<◌}
+use mathlib.Core.Bool.{◌&&◌}
 use mathlib.Core.Path.{◌≡◌, refl, ◌∙◌}
 use mathlib.Core.List.{List, [], ◌∷◌}
 use native.Mathlib.Omega.{arith}
-use lib.Dec.{ltb, eqb}
+use lib.Dec.{ltb}
 use lib.ListN.{length, get_or, take, drop}
 use lib.Seq.{length-take-le, get_or-take}
 use Rattle.bits.specs.Fields.{field}
 use Rattle.bits.specs.High.{high}
-use Rattle.commands.specs.Ranges.{within}
 use Rattle.frames.specs.Layout.{ident_in}
 use Rattle.model.specs.declared.Core.{Core}
-use Rattle.model.specs.Channels.{channels}
-use Rattle.model.specs.Good.{all_low, good_update_size, good_size, good_partial}
-use Rattle.model.proofs.States.{when_tripped}
+use Rattle.model.specs.Good.{all_low, good_size, good_partial}
 
 module _ (m : Core) (size : ℕ) where
-  -- an Update's length is the running list's, or 4 to 25 in steps of 3 when tripped
-  pub update_running : m.state ≡ 1 → good_update_size m size ≡ eqb size (1 + 3 * channels m.run.list.stim)
-  update_running e = rw e
-
-  pub update_tripped : (m.state ≡ 0 → ⊥) → (m.state ≡ 1 → ⊥) → good_update_size m size ≡ within 4 size 25 && eqb (size % 3) 1
-  update_tripped n k = when_tripped m.state false _ _ n k
-
   -- a high byte followed by low ones, shorter than its kept length
   pub open_partial : (bytes : List ℕ) → 0 < length bytes
       → good_partial m size bytes ≡ high (get_or bytes 0 0) && all_low (drop 1 bytes) && ltb (length bytes) size && good_size m (ident_in bytes) size

@@ -9,6 +9,7 @@ use commands::{idents, sizes};
 use model::Core;
 
 // The partial frame: the first `len` of its bytes, and the length that is kept for it; both 0 where no frame is open.
+// Bytes with a length beside them, as the C struct has them.
 #[repr(C)]
 #[derive(Clone, Copy)]
 pub struct PartialFrame {

@@ -59,6 +59,7 @@ fn good_waiting(p: Profile, v: Init, waits: u32, waiting: [Setting; 8]) -> bool
     (waits == 0) & all_zero(waiting)
 }
 
+// Profile and clock are handed on one by one: a struct of the two would be taken apart again in each function.
 fn good_run(p: Profile, clock: u32, r: Run) -> bool
     ensures { result ≡ good_run p clock r }
 {
