@@ -43,9 +43,9 @@ fn hit(position: u32, from: u32, t: u32, mode: u8) -> bool
 }
 
 // Whether channel i, set to x, pulses, its slot beginning at `from`.
-fn is_due(r: Run, i: usize, x: Setting, from: u32) -> bool
+fn is_due(r: &Run, i: usize, x: Setting, from: u32) -> bool
     requires { from ≤ 1000 }
-    ensures { result ≡ in_set r.list.stim i && in_turn r.list r.cycle i && felt x.width x.current && hits r.position from (t2 r.list.group) x.mode }
+    ensures { result ≡ in_set r.now.list.stim i && in_turn r.now.list r.now.cycle i && felt x.width x.current && hits r.now.position from (t2 r.now.list.group) x.mode }
 {
     timing::listed(r.list.stim, i)
         && is_felt(x.width, x.current)
@@ -59,8 +59,8 @@ fn is_due(r: Run, i: usize, x: Setting, from: u32) -> bool
 }
 
 // The lowest due channel of a module, counted from 0. Counts the listed channels below to find a slot, which is kept for every listed one.
-pub fn due(r: Run, which: Module) -> Option<usize>
-    ensures { result ≡ if_any (first_due r (first which) 4) }
+pub fn due(r: &Run, which: Module) -> Option<usize>
+    ensures { result ≡ if_any (first_due r.now (first which) 4) }
 {
     let first = which.first();
     let mut from = which.offset();
