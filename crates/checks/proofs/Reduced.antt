@@ -4,6 +4,7 @@ use mathlib.Core.Path.{◌≡◌, refl, sym, ap, ◌∙◌}
 use mathlib.Core.List.{List, [], ◌∷◌}
 use native.Mathlib.Omega.{arith}
 use native.Mathlib.Nat.{add-zero, zero-add, zero-mod, mod-add-mod, mod-mod_of_dvd, dvd-mul_right}
+use Rattle.std.specs.List.{fold}
 use Rattle.commands.specs.declared.Init.{Init}
 use Rattle.commands.specs.declared.Setting.{Setting}
 use Rattle.commands.specs.Commands.{Command, Command.init, Command.update, Command.stop, Command.single, sum_all, check_of}
@@ -40,6 +41,18 @@ pub entry_end : (remainder : ℕ) → reduced 32 remainder (settings_variables [
 unfolding reduced settings_variables
 entry_end remainder = refl
 
+-- one variable after the other
+pub one_by_one : (remainder : ℕ) (xs : List ℕ) → fold (λ r x. (r + x) % 32) remainder xs ≡ reduced 32 remainder xs
+unfolding reduced
+one_by_one remainder [] = refl
+one_by_one remainder (x ∷ xs) = one_by_one ((remainder + x) % 32) xs
+
+entries_reduced : (remainder : ℕ) (vs : List Setting)
+    → fold (λ r v. reduced 32 r (v.mode ∷ v.width ∷ v.current ∷ [])) remainder vs ≡ reduced 32 remainder (settings_variables vs)
+unfolding reduced settings_variables
+entries_reduced remainder [] = refl
+entries_reduced remainder (v ∷ vs) = entries_reduced (reduced 32 remainder (v.mode ∷ v.width ∷ v.current ∷ [])) vs
+
 total_settings : (vs : List Setting) → total (settings_variables vs) ≡ sum_all vs
 unfolding total settings_variables sum_all
 total_settings [] = refl
@@ -61,3 +74,7 @@ init_as_one_goes v =
     ap (λ (n : ℕ). n % 8) (as_one_goes 32 (variables_of (init v)))
     ∙ mod-mod_of_dvd 8 (total (variables_of (init v))) (dvd-mul_right 8 4)
     ∙ total_variables (init v)
+
+-- entry by entry
+pub entries_as_one_goes : (vs : List Setting) → fold (λ r v. reduced 32 r (v.mode ∷ v.width ∷ v.current ∷ [])) 0 vs ≡ sum_all vs % 32
+entries_as_one_goes vs = entries_reduced 0 vs ∙ check_as_one_goes (update 0 vs)

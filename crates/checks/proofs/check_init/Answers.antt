@@ -1,11 +1,11 @@
-use Prim.Native.Nat.{ℕ, ◌%◌}
-use mathlib.Core.Path.{ap, ◌∙◌}
-use Rattle.checks.specs.Reduced.{reduced}
+use mathlib.Core.Path.{◌≡◌, ◌∙◌}
+use Rattle.std.proofs.Common.{rules}
+use Rattle.checks.specs.Reduced.{reduced, variables_of}
+use Rattle.commands.specs.Commands.{Command.init}
 use Rattle.checks.proofs.Reduced.{init_as_one_goes}
 use Rattle.checks.proofs.check_init.Goals as goal
 
 pub returns : goal.returns
-unfolding reduced
 returns c =
-    ap (λ (n : ℕ). n % 8) (rw (c.plus-3.ensures, c.plus-channels.ensures, c.plus-2.ensures, c.plus.ensures) at c.plus-4.ensures)
-    ∙ init_as_one_goes c.args.v
+    let e : c.remainder_of.result ≡ reduced 32 0 (variables_of (init c.args.v)) = search rules in
+    c.from.ensures ∙ rw e (init_as_one_goes c.args.v)

@@ -4,4 +4,4 @@ use Rattle.checks.proofs.Reduced.{check_as_one_goes}
 use Rattle.checks.proofs.check_single.Goals as goal
 
 pub returns : goal.returns
-returns c = c.plus_entry.ensures ∙ check_as_one_goes (single c.args.v)
+returns c = c.from.ensures ∙ c.plus_entry.ensures ∙ check_as_one_goes (single c.args.v)
