@@ -11,6 +11,7 @@ ghost use Rattle.outcome.specs.Step.{carried, step_of};
 ghost use Rattle.arrival.specs.Arriving.{open_in, grown, unfinished, settled};
 ghost use Rattle.effects.specs.Deciding.{Whole};
 
+use commands::idents::Ident;
 use commands::refusals::Refusal;
 use commands::{answers, idents, sizes};
 use decided::Decided;
@@ -121,10 +122,10 @@ fn open_frame(b: &Box, n: u8) -> Stepped
     ensures { result ≡ carried b.now (taken b.now.profile (state_of b.now) (opened b.now.core n)) }
 {
     match frames::ident_of(n) {
-        idents::UPDATE => open_update(b, n),
-        idents::INIT => keep(b, first(n, sizes::INIT)),
-        idents::STOP => finish(b, &first(n, sizes::STOP)),
-        _ => keep(b, first(n, sizes::SINGLE)),
+        Ident::Update => open_update(b, n),
+        Ident::Init => keep(b, first(n, sizes::INIT)),
+        Ident::Stop => finish(b, &first(n, sizes::STOP)),
+        Ident::Single => keep(b, first(n, sizes::SINGLE)),
     }
 }
 

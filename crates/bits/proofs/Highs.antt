@@ -1,23 +1,41 @@
--- Laws of the search for a high byte. Assumes nothing.
-use Prim.Native.Nat.{ℕ, suc, ◌+◌, ◌≤◌, ◌<◌}
-use mathlib.Core.Bool.{true, false}
-use mathlib.Core.Path.{◌≡◌}
+-- The search for a high byte, in the library's words. Assumes nothing.
+use Prim.Native.Nat.{ℕ, suc, ◌+◌, ◌≤◌}
+use mathlib.Core.Bool.{Bool, true, false, cond, not}
+use mathlib.Core.Path.{◌≡◌, refl, sym, ap}
 use mathlib.Core.List.{List}
-use native.Mathlib.Numerals.{add-one}
-use lib.ListN.{length, get_or, drop, drop_of_length-le}
-use lib.Seq.{drop-cons}
+use native.Mathlib.Omega.{arith}
+use lib.Dec.{ltb, eqb}
+use lib.ListN.{length}
+use borrow.Author.Tests.{ltb-false, ltb-true, eq-eqb, ne_eqb}
+use Rattle.std.specs.Prelude.{Some, None, is_some, is_none}
+use Rattle.std.specs.List.{position, position_or_len}
+use Rattle.std.proofs.lemmas.List.Recursion.{is_position_or_len}
+use Rattle.std.proofs.lemmas.List.Sums.{prefix_len-le-length}
 use Rattle.bits.specs.High.{high, first_high}
 
--- the search from place i on: it ends at a high byte, goes on past a low one, and ends where the list does
-module _ (s : List ℕ) (i : ℕ) where
-  pub high_here : i < length s → high (get_or s i 0) ≡ true → first_high (drop i s) ≡ 0
-  unfolding first_high
-  high_here h b = rw (drop-cons s i 0 h, b)
+-- the first place that is high
+high_place : (s : List ℕ) → first_high s ≡ position_or_len high s
+unfolding first_high
+high_place = is_position_or_len first_high high refl (λ b s. let e : suc (first_high s) ≡ 1 + first_high s = omega arith in ap (cond (high b) 0) e)
 
-  pub high_on : i < length s → high (get_or s i 0) ≡ false → first_high (drop i s) ≡ suc (first_high (drop (i + 1) s))
-  unfolding first_high
-  high_on h b = rw (drop-cons s i 0 h, b, add-one i)
+some_place : (p n : ℕ) → is_some (cond (ltb p n) (Some p) None) ≡ ltb p n
+some_place p n = either (ltb p n)
+  where
+    either : (t : Bool) → is_some (cond t (Some p) None) ≡ t
+    either true = refl
+    either false = refl
 
-  pub high_end : length s ≤ i → first_high (drop i s) ≡ 0
-  unfolding first_high
-  high_end h = rw (drop_of_length-le s h)
+no_place : (p n : ℕ) → p ≤ n → is_none (cond (ltb p n) (Some p) None) ≡ eqb p n
+no_place p n h = either (ltb p n) refl
+  where
+    either : (t : Bool) → ltb p n ≡ t → is_none (cond t (Some p) None) ≡ eqb p n
+    either true e = sym (ne_eqb p n (λ z. omega (arith, ltb-true p n e)))
+    either false e = sym (eq-eqb p n (omega (arith, ltb-false p n e)))
+
+-- a byte is high where the search ends before the list
+pub some_high : (s : List ℕ) → is_some (position high s) ≡ ltb (first_high s) (length s)
+some_high s = rw high_place (some_place (position_or_len high s) (length s))
+
+-- none is where it ends with it
+pub none_high : (s : List ℕ) → is_none (position high s) ≡ eqb (first_high s) (length s)
+none_high s = rw high_place (no_place (position_or_len high s) (length s) (prefix_len-le-length (λ b. not (high b)) s))

@@ -1,9 +1,9 @@
 // Fields of seven-bit bytes: the only shifts and masks, and the search for a high byte.
 #![tactic(auto)]
 
-ghost use Rattle.std.specs.Prelude.{◌≡◌, ◌+◌, ◌*◌, ◌/◌, ◌%◌, ◌^◌, ◌<◌};
+ghost use Rattle.std.specs.Prelude.{◌≡◌, ◌+◌, ◌*◌, ◌/◌, ◌%◌, ◌^◌, ◌<◌, position};
 ghost use Rattle.bits.specs.Fields.{field, below};
-ghost use Rattle.bits.specs.High.{high, first_high};
+ghost use Rattle.bits.specs.High.{high};
 
 // The lowest `width` bits of w.
 fn low_bits(w: u64, width: u64) -> u64
@@ -59,16 +59,9 @@ pub fn is_high(b: u8) -> bool
     128 <= b
 }
 
-// The place of the first high byte of s, or its length.
-pub fn first_high(s: &[u8]) -> usize
-    ensures { result ≡ first_high s.now }
+// The place of the first high byte of s, if one is high.
+pub fn first_high(s: &[u8]) -> Option<usize>
+    ensures { result ≡ position high s.now }
 {
-    let mut i = 0;
-    while i < s.len() {
-        if is_high(s[i]) {
-            return i;
-        }
-        i += 1;
-    }
-    i
+    s.iter().position(|b| is_high(*b))
 }

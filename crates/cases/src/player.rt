@@ -143,6 +143,8 @@ impl Player {
 
 // What the reader of one frame answers.
 fn read_frame(rt: &impl Print, channels: usize, bytes: &[u8]) -> io::Result<()> {
-    let read = reader::read_frame(bytes, channels);
-    println!(rt; "  answer {}, used {}", read.answer, read.used)
+    match reader::read_frame(bytes, channels) {
+        Ok(frame) => println!(rt; "  answer 0, used {}", frame.used),
+        Err(refusal) => println!(rt; "  answer {}, used 0", refusal.number()),
+    }
 }

@@ -9,9 +9,8 @@ use lib.ListN.{length}
 use borrow.Author.Tests.{ltb-false, le-ltb}
 use Rattle.commands.specs.Answers.{◌when◌, first_of}
 use Rattle.commands.specs.Commands.{Command, Command.init, Command.update, Command.stop, Command.single, ident_of, check_of, good}
-use Rattle.frames.specs.declared.Read.{Read}
 use Rattle.frames.specs.Layout.{ident_in, size_for, command_in, check_in}
-use Rattle.frames.specs.Reader.{fields_of, answered}
+use Rattle.frames.specs.Reader.{Read, fields_of, answered}
 use Rattle.frames.specs.Reader.{tested_values}
 use Rattle.frames.proofs.Shaped.{shaped}
 use Rattle.frames.proofs.Idents.{init_here, update_here, stop_here, single_here, for_each_ident}

@@ -2,3 +2,4 @@ pub mod Pulses
 pub mod Verdicts
 pub mod Bytes
 pub mod Judged
+pub mod Answered

@@ -3,9 +3,8 @@ use Rattle.std.specs.Prelude.{ℕ, ◌/◌, cond, ◌&&◌, ◌||◌, List, [], 
 use Rattle.commands.specs.Answers.{Test, ◌when◌, first_of}
 use Rattle.commands.specs.Commands.{Command, Command.init, Command.update, Command.stop, Command.single, ident_of}
 use Rattle.frames.specs.declared.Fields.{Fields}
-use Rattle.frames.specs.declared.Read.{Read}
 use Rattle.frames.specs.Layout.{ident_in, by_ident}
-use Rattle.frames.specs.Reader.{shape_tests, read_frame}
+use Rattle.frames.specs.Reader.{Read, shape_tests, read_frame}
 use Rattle.commands.specs.Reply.{reply}
 use Rattle.model.specs.declared.Profile.{Profile}
 use Rattle.model.specs.declared.Core.{Core}

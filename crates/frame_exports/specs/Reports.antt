@@ -1,5 +1,5 @@
 -- What each exported reader hands back of the one reader's report: the fields of its own kind.
-use Rattle.frames.specs.declared.Read.{Read}
+use Rattle.frames.specs.Reader.{Read}
 use Rattle.frame_exports.specs.declared.init.ReadInit.{ReadInit}
 use Rattle.frame_exports.specs.declared.update.ReadUpdate.{ReadUpdate}
 use Rattle.frame_exports.specs.declared.stop.ReadStop.{ReadStop}

@@ -5,7 +5,7 @@ ghost use Rattle.frames.specs.Reader.{read_frame};
 ghost use Rattle.writers.specs.Writer.{wrote, written};
 ghost use Rattle.frame_exports.specs.Reports.{as_init};
 
-use commands::{Init, Wrote};
+use commands::{Init, Wrote, refusals};
 
 #[repr(C)]
 #[derive(Clone, Copy)]
@@ -20,14 +20,13 @@ pub struct ReadInit {
 pub extern "C" fn yarrowbell_read_init(s: &[u8], count: usize) -> ReadInit
     ensures { result ≡ as_init (read_frame s.now count) }
 {
-    let r = reader::read_frame(s, count);
-    let f = r.fields;
-    let init = f.init;
+    let outcome = reader::read_frame(s, count);
+    let frame = frames::handed_back(outcome);
     ReadInit {
-        answer: r.answer,
-        ident: f.ident,
-        used: r.used as u16,
-        init,
+        answer: refusals::answer(&outcome),
+        ident: frame.fields.ident,
+        used: u16::from(frame.used),
+        init: frame.fields.init,
     }
 }
 
@@ -35,5 +34,5 @@ pub extern "C" fn yarrowbell_read_init(s: &[u8], count: usize) -> ReadInit
 pub extern "C" fn yarrowbell_write_init(v: Init, out: &mut [u8]) -> Wrote
     ensures { (result ≡ wrote (init v) out.old) × (out.new ≡ written (init v) out.old) }
 {
-    writers::write_init(v, out)
+    Wrote::from(writers::write_init(v, out))
 }

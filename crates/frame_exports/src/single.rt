@@ -5,7 +5,7 @@ ghost use Rattle.frames.specs.Reader.{read_frame};
 ghost use Rattle.writers.specs.Writer.{wrote, written};
 ghost use Rattle.frame_exports.specs.Reports.{as_single};
 
-use commands::{Single, Wrote};
+use commands::{Single, Wrote, refusals};
 
 #[repr(C)]
 #[derive(Clone, Copy)]
@@ -20,14 +20,13 @@ pub struct ReadSingle {
 pub extern "C" fn yarrowbell_read_single(s: &[u8], count: usize) -> ReadSingle
     ensures { result ≡ as_single (read_frame s.now count) }
 {
-    let r = reader::read_frame(s, count);
-    let f = r.fields;
-    let single = f.single;
+    let outcome = reader::read_frame(s, count);
+    let frame = frames::handed_back(outcome);
     ReadSingle {
-        answer: r.answer,
-        ident: f.ident,
-        used: r.used as u16,
-        single,
+        answer: refusals::answer(&outcome),
+        ident: frame.fields.ident,
+        used: u16::from(frame.used),
+        single: frame.fields.single,
     }
 }
 
@@ -35,5 +34,5 @@ pub extern "C" fn yarrowbell_read_single(s: &[u8], count: usize) -> ReadSingle
 pub extern "C" fn yarrowbell_write_single(v: Single, out: &mut [u8]) -> Wrote
     ensures { (result ≡ wrote (single v) out.old) × (out.new ≡ written (single v) out.old) }
 {
-    writers::write_single(v, out)
+    Wrote::from(writers::write_single(v, out))
 }

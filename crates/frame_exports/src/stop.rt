@@ -5,7 +5,7 @@ ghost use Rattle.frames.specs.Reader.{read_frame};
 ghost use Rattle.writers.specs.Writer.{wrote, written};
 ghost use Rattle.frame_exports.specs.Reports.{as_stop};
 
-use commands::Wrote;
+use commands::{Wrote, refusals};
 
 #[repr(C)]
 #[derive(Clone, Copy)]
@@ -19,12 +19,12 @@ pub struct ReadStop {
 pub extern "C" fn yarrowbell_read_stop(s: &[u8], count: usize) -> ReadStop
     ensures { result ≡ as_stop (read_frame s.now count) }
 {
-    let r = reader::read_frame(s, count);
-    let f = r.fields;
+    let outcome = reader::read_frame(s, count);
+    let frame = frames::handed_back(outcome);
     ReadStop {
-        answer: r.answer,
-        ident: f.ident,
-        used: r.used as u16,
+        answer: refusals::answer(&outcome),
+        ident: frame.fields.ident,
+        used: u16::from(frame.used),
     }
 }
 
@@ -32,5 +32,5 @@ pub extern "C" fn yarrowbell_read_stop(s: &[u8], count: usize) -> ReadStop
 pub extern "C" fn yarrowbell_write_stop(out: &mut [u8]) -> Wrote
     ensures { (result ≡ wrote stop out.old) × (out.new ≡ written stop out.old) }
 {
-    writers::write_stop(out)
+    Wrote::from(writers::write_stop(out))
 }

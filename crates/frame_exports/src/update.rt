@@ -5,7 +5,7 @@ ghost use Rattle.frames.specs.Reader.{read_frame};
 ghost use Rattle.writers.specs.Writer.{wrote, written};
 ghost use Rattle.frame_exports.specs.Reports.{as_update};
 
-use commands::{Setting, Wrote};
+use commands::{Setting, Wrote, refusals};
 
 #[repr(C)]
 #[derive(Clone, Copy)]
@@ -26,13 +26,13 @@ pub struct ReadUpdate {
 pub extern "C" fn yarrowbell_read_update(s: &[u8], count: usize) -> ReadUpdate
     ensures { result ≡ as_update (read_frame s.now count) }
 {
-    let r = reader::read_frame(s, count);
-    let f = r.fields;
-    let settings = f.entries;
+    let outcome = reader::read_frame(s, count);
+    let frame = frames::handed_back(outcome);
+    let settings = frame.fields.entries;
     ReadUpdate {
-        answer: r.answer,
-        ident: f.ident,
-        used: r.used as u16,
+        answer: refusals::answer(&outcome),
+        ident: frame.fields.ident,
+        used: u16::from(frame.used),
         settings,
     }
 }
@@ -41,6 +41,5 @@ pub extern "C" fn yarrowbell_read_update(s: &[u8], count: usize) -> ReadUpdate
 pub extern "C" fn yarrowbell_write_update(settings: Settings, count: usize, out: &mut [u8]) -> Wrote
     ensures { (result ≡ wrote (update count settings.all) out.old) × (out.new ≡ written (update count settings.all) out.old) }
 {
-    let all = settings.all;
-    writers::write_update(count, all, out)
+    Wrote::from(writers::write_update(count, settings.all, out))
 }

@@ -1,14 +1,16 @@
 -- The reader of one frame (document 01, "The four frames").
-use Rattle.std.specs.Prelude.{ℕ, Bool, cond, not, List, [], ◌∷◌, ◌++◌, ltb, eqb, length, get_or, take, drop, replicate}
+use Rattle.std.specs.Prelude.{ℕ, Result, Ok, Err, Bool, cond, not, List, [], ◌∷◌, ◌++◌, ltb, eqb, length, get_or, take, drop, replicate}
 use Rattle.bits.specs.High.{high, first_high}
 use Rattle.commands.specs.declared.Init.{Init}
 use Rattle.commands.specs.declared.Setting.{Setting}
 use Rattle.commands.specs.declared.Single.{Single}
+use Rattle.commands.specs.declared.refusals.Refusal.{Refusal}
 use Rattle.commands.specs.Answers.{Test, ◌when◌, first_of}
+use Rattle.commands.specs.Refusals.{number}
 use Rattle.commands.specs.Ranges.{good_count}
 use Rattle.commands.specs.Commands.{Command, Command.init, Command.update, Command.stop, Command.single, no_setting, check_of, good}
 use Rattle.frames.specs.declared.Fields.{Fields}
-use Rattle.frames.specs.declared.Read.{Read}
+use Rattle.frames.specs.declared.Frame.{Frame}
 use Rattle.frames.specs.Layout.{ident_in, size_for, command_in, check_in}
 use Rattle.frames.specs.Bytes.{frame_size}
 
@@ -33,7 +35,12 @@ shape_tests s count =
 abbrev pub value_tests : ℕ → Command → List Test
 value_tests k c = 3 when not (eqb k (check_of c)) ∷ 4 when not (good c) ∷ []
 
--- ---- what is handed back: the fields of the command, all others zero
+-- ---- what is handed back: the answer, the bytes used, and the fields of the command, all others zero
+
+pub record Read : Type 0 where
+  pub answer : ℕ
+  pub used : ℕ
+  pub fields : Fields
 
 abbrev pub no_init : Init
 no_init = record { factor = 0; stim = 0; lf = 0; group = 0; main = 0 }
@@ -59,6 +66,11 @@ found c = record { answer = 0; used = frame_size c; fields = fields_of c }
 -- a refused reader reports 0 bytes and all fields zero
 abbrev pub refused_read : ℕ → Read
 refused_read a = record { answer = a; used = 0; fields = no_fields }
+
+-- what a reader reports that finds a frame, or refuses it
+abbrev pub reported : Result Frame Refusal → Read
+reported (Ok f) = record { answer = 0; used = f.used; fields = f.fields }
+reported (Err refusal) = refused_read (number refusal)
 
 abbrev pub answered : ℕ → Command → Read
 answered a c = cond (eqb a 0) (found c) (refused_read a)

@@ -2,10 +2,12 @@
 #![tactic(auto)]
 
 ghost use Rattle.std.specs.Prelude.{◌&&◌, ◌≡◌, ◌≤◌, take, drop};
+ghost use Rattle.commands.specs.Idents.{number};
 ghost use Rattle.model.specs.Good.{all_low, good_update_size, good_size, good_partial};
 ghost use Rattle.partial.specs.Partial.{zeros, unused_zero};
 
-use commands::{idents, sizes};
+use commands::idents::Ident;
+use commands::sizes;
 use model::Core;
 
 // The partial frame: the first `len` of its bytes, and the length that is kept for it; both 0 where no frame is open.
@@ -36,24 +38,24 @@ fn good_update_size(m: Core, size: usize) -> bool
 
 // A kept length, by the frame's Ident.
 #[tactic(auto, unfolding(model::specs::Good::good_size))]
-fn good_size(m: Core, ident: u8, size: usize) -> bool
-    ensures { result ≡ good_size m ident size }
+fn good_size(m: Core, ident: Ident, size: usize) -> bool
+    ensures { result ≡ good_size m (number ident) size }
 {
     match ident {
-        idents::UPDATE => good_update_size(m, size),
-        idents::INIT => size == sizes::INIT,
-        idents::STOP => size == sizes::STOP,
-        _ => size == sizes::SINGLE,
+        Ident::Update => good_update_size(m, size),
+        Ident::Init => size == sizes::INIT,
+        Ident::Stop => size == sizes::STOP,
+        Ident::Single => size == sizes::SINGLE,
     }
 }
 
 // The bytes behind the first, up to the n-th, are low.
+#[tactic(auto, using(crate::proofs::Lows::none_found))]
 fn all_low(bytes: [u8; 25], n: usize) -> bool
     requires { (1 ≤ n) × (n ≤ 25) }
     ensures { result ≡ all_low (drop 1 (take n bytes)) }
 {
-    let behind = &bytes[1..n];
-    bits::first_high(behind) == behind.len()
+    bits::first_high(&bytes[1..n]).is_none()
 }
 
 // The bytes from the n-th on are zero.

@@ -14,6 +14,7 @@ pub fn check_of(first: u8) -> u64
 }
 
 // Three bytes as one number of 21 bits.
+#[tactic(auto, unfolding(bits::specs::Fields::below))]
 fn join(a: u8, b: u8, c: u8) -> u64
     ensures { result ≡ septets a b c }
 {
@@ -25,6 +26,7 @@ fn join(a: u8, b: u8, c: u8) -> u64
 }
 
 // The 42 bits of an Init frame.
+#[tactic(auto, unfolding(bits::specs::Fields::below, frames::specs::Layout::init_word))]
 pub fn init_word(s: &[u8]) -> u64
     requires { 6 ≤ length s.now }
     ensures { result ≡ init_word s.now }
@@ -45,6 +47,7 @@ pub fn init_of(w: u64) -> Init
 }
 
 // The entry from `at` on, its lead in bits 6 to `low` of its first byte.
+#[tactic(auto, using(bits::proofs::Fields::field_lt), unfolding(bits::specs::Fields::below, frames::specs::Layout::entry_in))]
 fn entry_in(low: u64, s: &[u8], at: usize) -> Entry
     requires { (low ≤ 7) × (at + 3 ≤ length s.now) }
     ensures { result ≡ entry_in low s.now at }
@@ -88,11 +91,8 @@ pub fn entries_in(s: &[u8], count: usize) -> [Setting; 8]
     ensures { result ≡ entries_in s.now count }
 {
     let mut entries = [commands::NO_SETTING; 8];
-    let mut i = 0;
-    while i < count {
-        let v = setting_in(s, sizes::FIRST + sizes::ENTRY * i);
-        entries[i] = v;
-        i += 1;
+    for (i, entry) in entries[..count].iter_mut().enumerate() {
+        *entry = setting_in(s, sizes::FIRST + sizes::ENTRY * i);
     }
     entries
 }

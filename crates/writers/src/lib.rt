@@ -1,93 +1,71 @@
-// The writers (document 01, "The four frames"): one for each kind of command.
+// The writers (document 01, "The four frames"): one for each kind of command. Each gives the bytes written.
 #![tactic(auto)]
 
 mod storing;
 
-ghost use Rattle.std.specs.Prelude.{◌≡◌};
+ghost use Rattle.std.specs.Prelude.{cond, Ok, Err, ◌≡◌, ◌≤◌, ltb, length};
 ghost use Rattle.commands.specs.Commands.{Command.init, Command.update, Command.stop, Command.single};
+ghost use Rattle.commands.specs.Refusals.{report};
 ghost use Rattle.writers.specs.Writer.{wrote, written};
 
-use commands::{Init, Setting, Single, Wrote, answers, idents, sizes};
+use commands::idents::Ident;
+use commands::refusals::Refusal;
+use commands::{Init, Setting, Single, sizes};
 
-pub fn write_init(v: Init, out: &mut [u8]) -> Wrote
-    ensures { (result ≡ wrote (init v) out.old) × (out.new ≡ written (init v) out.old) }
+// So many bytes, where the output has room for them.
+fn room(size: usize, out: &[u8]) -> Result<u8, Refusal>
+    requires { size ≤ 25 }
+    ensures { result ≡ cond (ltb (length out.now) size) (Err Refusal.OutputTooShort) (Ok size) }
 {
-    if commands::good_init(v) {
-        if out.len() < sizes::INIT {
-            return Wrote {
-                answer: answers::OUTPUT_TOO_SHORT,
-                used: 0,
-            };
-        }
-        storing::put_init(v, out);
-        return Wrote {
-            answer: answers::DONE,
-            used: sizes::INIT as u8,
-        };
+    if out.len() < size {
+        Err(Refusal::OutputTooShort)
+    } else {
+        Ok(size as u8)
     }
-    Wrote {
-        answer: answers::NOT_GOOD,
-        used: 0,
+}
+
+#[tactic(auto, using(crate::proofs::Outcomes::outcomes))]
+pub fn write_init(v: Init, out: &mut [u8]) -> Result<u8, Refusal>
+    ensures { (report result ≡ wrote (init v) out.old) × (out.new ≡ written (init v) out.old) }
+{
+    if !commands::good_init(v) {
+        return Err(Refusal::NotGood);
     }
+    let used = room(sizes::INIT, out)?;
+    storing::put_init(v, out);
+    Ok(used)
 }
 
 // An Update of `count` listed channels: their entries, lowest channel first, and then zeros.
-pub fn write_update(count: usize, entries: [Setting; 8], out: &mut [u8]) -> Wrote
-    ensures { (result ≡ wrote (update count entries) out.old) × (out.new ≡ written (update count entries) out.old) }
+#[tactic(auto, using(crate::proofs::Outcomes::outcomes, crate::proofs::Rows::length_update))]
+pub fn write_update(count: usize, entries: [Setting; 8], out: &mut [u8]) -> Result<u8, Refusal>
+    ensures { (report result ≡ wrote (update count entries) out.old) × (out.new ≡ written (update count entries) out.old) }
 {
-    if commands::good_update(count, entries) {
-        if out.len() < sizes::FIRST + sizes::ENTRY * count {
-            return Wrote {
-                answer: answers::OUTPUT_TOO_SHORT,
-                used: 0,
-            };
-        }
-        storing::put_update(count, entries, out);
-        return Wrote {
-            answer: answers::DONE,
-            used: (sizes::FIRST + sizes::ENTRY * count) as u8,
-        };
+    if !commands::good_update(count, entries) {
+        return Err(Refusal::NotGood);
     }
-    Wrote {
-        answer: answers::NOT_GOOD,
-        used: 0,
-    }
+    let used = room(sizes::FIRST + sizes::ENTRY * count, out)?;
+    storing::put_update(count, entries, out);
+    Ok(used)
 }
 
-pub fn write_stop(out: &mut [u8]) -> Wrote
-    ensures { (result ≡ wrote stop out.old) × (out.new ≡ written stop out.old) }
+#[tactic(auto, using(crate::proofs::Outcomes::outcomes))]
+pub fn write_stop(out: &mut [u8]) -> Result<u8, Refusal>
+    ensures { (report result ≡ wrote stop out.old) × (out.new ≡ written stop out.old) }
 {
-    if out.len() < sizes::STOP {
-        return Wrote {
-            answer: answers::OUTPUT_TOO_SHORT,
-            used: 0,
-        };
-    }
-    out[0] = storing::head_of(idents::STOP, 0);
-    Wrote {
-        answer: answers::DONE,
-        used: sizes::STOP as u8,
-    }
+    let used = room(sizes::STOP, out)?;
+    out[0] = storing::head_of(Ident::Stop, 0);
+    Ok(used)
 }
 
-pub fn write_single(v: Single, out: &mut [u8]) -> Wrote
-    ensures { (result ≡ wrote (single v) out.old) × (out.new ≡ written (single v) out.old) }
+#[tactic(auto, using(crate::proofs::Outcomes::outcomes))]
+pub fn write_single(v: Single, out: &mut [u8]) -> Result<u8, Refusal>
+    ensures { (report result ≡ wrote (single v) out.old) × (out.new ≡ written (single v) out.old) }
 {
-    if commands::good_single(v) {
-        if out.len() < sizes::SINGLE {
-            return Wrote {
-                answer: answers::OUTPUT_TOO_SHORT,
-                used: 0,
-            };
-        }
-        storing::put_single(v, out);
-        return Wrote {
-            answer: answers::DONE,
-            used: sizes::SINGLE as u8,
-        };
+    if !commands::good_single(v) {
+        return Err(Refusal::NotGood);
     }
-    Wrote {
-        answer: answers::NOT_GOOD,
-        used: 0,
-    }
+    let used = room(sizes::SINGLE, out)?;
+    storing::put_single(v, out);
+    Ok(used)
 }

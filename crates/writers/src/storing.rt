@@ -1,17 +1,20 @@
 // A good command's bytes, stored at the front of an output that has room for them.
-ghost use Rattle.std.specs.Prelude.{true, ◌≡◌, ◌+◌, ◌-◌, ◌*◌, ◌^◌, ◌≤◌, ◌<◌, length, take};
+ghost use Rattle.std.specs.Prelude.{true, ◌≡◌, ◌+◌, ◌-◌, ◌*◌, ◌^◌, ◌≤◌, ◌<◌, length, get_or, EachIndex};
 ghost use Rattle.std.proofs.lemmas.List.Edits.{sets};
-ghost use Rattle.commands.specs.Commands.{Command.init, Command.update, Command.single, check_of, good_entries, good};
+ghost use Rattle.commands.specs.Commands.{Command.init, Command.update, Command.single, no_setting, good_setting, good};
+ghost use Rattle.commands.specs.Idents.{number};
 ghost use Rattle.frames.specs.Bytes.{head, init_number, entry_bytes, settings_bytes, frame};
 
-use commands::{Init, Setting, Single, idents, sizes};
+use commands::idents::Ident;
+use commands::{Init, Setting, Single, sizes};
 
 // The first byte of all but Init.
-pub fn head_of(ident: u8, check: u64) -> u8
-    requires { (ident < 4) × (check < 32) }
-    ensures { result ≡ head ident check }
+#[tactic(auto, unfolding(bits::specs::Fields::below))]
+pub fn head_of(ident: Ident, check: u64) -> u8
+    requires { check < 32 }
+    ensures { result ≡ head (number ident) check }
 {
-    bits::put_field(bits::put_field(1, 2, ident as u64), 5, check) as u8
+    bits::put_field(bits::put_field(1, 2, ident.number() as u64), 5, check) as u8
 }
 
 // Bit 7 of the first byte, and the 42 bits of an Init frame.
@@ -48,42 +51,30 @@ fn put_entry(low: u64, lead: u8, width: u16, current: u8, out: &mut [u8], at: us
     out[at + 2] = current;
 }
 
-// The entries of the first `count` settings, stored from the second byte on, and their Check.
-fn put_settings(count: usize, entries: [Setting; 8], out: &mut [u8]) -> u8
-    requires { (count ≤ 8) × (1 + 3 * count ≤ length out.old) × (good_entries entries count ≡ true) }
-    ensures { (result ≡ check_of (update count entries)) × (out.new ≡ sets out.old 1 (settings_bytes (take count entries))) }
+// The entries of good settings, stored from the second byte on.
+fn put_settings(listed: &[Setting], out: &mut [u8])
+    requires { EachIndex listed.now (λ i. good_setting (get_or listed.now i no_setting) ≡ true) × (1 + 3 * length listed.now ≤ length out.old) }
+    ensures { out.new ≡ sets out.old 1 (settings_bytes listed.now) }
 {
-    let mut remainder: u8 = 0;
-    let mut i = 0;
-    while i < count {
-        let v = entries[i];
-        put_entry(
-            frames::MODE_BIT,
-            v.mode,
-            v.width,
-            v.current,
-            out,
-            sizes::FIRST + sizes::ENTRY * i,
-        );
-        remainder = checks::plus_entry(remainder, v.mode, v.width, v.current);
-        i += 1;
+    for (i, v) in listed.iter().enumerate() {
+        let at = sizes::FIRST + sizes::ENTRY * i;
+        put_entry(frames::MODE_BIT, v.mode, v.width, v.current, out, at);
     }
-    remainder
 }
 
 pub fn put_update(count: usize, entries: [Setting; 8], out: &mut [u8])
     requires { (good (update count entries) ≡ true) × (1 + 3 * count ≤ length out.old) }
     ensures { out.new ≡ sets out.old 0 (frame (update count entries)) }
 {
-    let check = put_settings(count, entries, out);
-    out[0] = head_of(idents::UPDATE, check as u64);
+    put_settings(&entries[..count], out);
+    out[0] = head_of(Ident::Update, checks::check_update(&entries));
 }
 
 pub fn put_single(v: Single, out: &mut [u8])
     requires { (good (single v) ≡ true) × (4 ≤ length out.old) }
     ensures { out.new ≡ sets out.old 0 (frame (single v)) }
 {
-    out[0] = head_of(idents::SINGLE, checks::check_single(v));
+    out[0] = head_of(Ident::Single, checks::check_single(v));
     put_entry(
         frames::CHANNEL_BIT,
         v.channel,

@@ -1,19 +1,23 @@
+use Prim.Native.Nat.{◌≤◌}
 use native.Mathlib.Omega.{arith}
-use lib.ListN.{take}
+use lib.ListN.{length, take}
+use Rattle.std.proofs.lemmas.List.{length-take-le}
 use Rattle.commands.specs.Ranges.{good_count}
+use Rattle.commands.specs.Commands.{good_entries}
 use Rattle.commands.proofs.Tests.{both}
-use Rattle.commands.proofs.Fits.{count_fits}
+use Rattle.commands.proofs.Fits.{update_count}
 use Rattle.frames.specs.Bytes.{settings_bytes}
-use Rattle.writers.proofs.Rows.{set_after}
+use Rattle.writers.proofs.Rows.{listed_good_each, set_after}
 use Rattle.writers.proofs.storing.put_update.Goals as goal
 
-pub put_settings-check-requires : goal.put_settings-check-requires
-put_settings-check-requires c =
-    let g = both (good_count c.args.count) _ c.requires.0 in
-    (count_fits c.args.count g.0, c.requires.1, g.1)
+pub put_settings-requires : goal.put_settings-requires
+put_settings-requires c =
+    let a = c.args in
+    let h : a.count ≤ 8 = update_count a.count a.entries c.requires.0 in
+    let l : a.count ≤ length a.entries = omega (arith, c.well_formed, h) in
+    (listed_good_each a.entries a.count (both (good_count a.count) (good_entries a.entries a.count) c.requires.0).1 l, rw length-take-le c.requires.1)
 
 pub returns : goal.returns
 returns c =
     let a = c.args in
-    let put = c.put_settings-check in
-    rw (put.ensures.1, c.head_of.ensures, put.ensures.0) (set_after a.out.now (settings_bytes (take a.count a.entries)) 0 1 _ (omega arith))
+    rw (c.put_settings.ensures, c.head_of.ensures, c.check_update.ensures) (set_after a.out.now (settings_bytes (take a.count a.entries)) 0 1 _ (omega arith))
