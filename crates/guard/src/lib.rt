@@ -33,7 +33,7 @@ pub fn tick(b: &Box, buf: &mut [u8], at: Part) -> Called
 pub fn readout(b: &Box, buf: &[u8], at: Part, out: &mut [u8]) -> Readout
     ensures { (result ≡ readout_of b.now buf.now at (length out.old)) × (out.new ≡ readout_bytes b.now buf.now at out.old) }
 {
-    if record::good_box(*b) {
+    if record::good_box(b) {
         return readout::read_out(buf, at, b.ring, out);
     }
     Readout {

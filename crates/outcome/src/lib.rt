@@ -33,7 +33,7 @@ pub fn refuse(refusal: Refusal, b: &Box) -> Stepped
 pub fn refusal(b: &Box, ring: Result<(), Refusal>) -> Result<(), Refusal>
     ensures { answer result ≡ refusal b.now (answer ring) }
 {
-    if record::good_box(*b) {
+    if record::good_box(b) {
         return ring;
     }
     Err(Refusal::BoxNotGood)

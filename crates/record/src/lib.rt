@@ -20,8 +20,8 @@ pub struct Box {
 }
 
 // Whether a box record is good.
-pub fn good_box(b: Box) -> bool
-    ensures { result ≡ good_box b }
+pub fn good_box(b: &Box) -> bool
+    ensures { result ≡ good_box b.now }
 {
     limits::good_profile(b.profile)
         & ring::good_ring(b.ring)
