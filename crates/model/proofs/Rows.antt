@@ -97,6 +97,15 @@ most_items {A} d v xs k l = rw (← l) (on xs) where
   on [] = refl
   on (x ∷ xs) = rw (most_front (length xs) (λ i. v (get_or (x ∷ xs) i d))) (most_fold d v (v x) xs)
 
+-- a test at some number of a range
+pub some_counted : (n : ℕ) (f : ℕ → Bool) → list_any f (range_with_len 0 n) ≡ some_below n f
+some_counted n f = on n 0 f (λ i. let e : 0 + i ≡ i = omega arith in rw e) where
+  on : (n a : ℕ) (g : ℕ → Bool) → ((i : ℕ) → g i ≡ f (a + i)) → list_any f (range_with_len a n) ≡ some_below n g
+  on zero a g h = refl
+  on (suc n) a g h =
+      let first : f a ≡ g 0 = let e : a + 0 ≡ a = omega arith in sym (rw e at (h 0)) in
+      rw (some_front n g, first, on n (a + 1) (λ i. g (suc i)) (λ i. let e : a + suc i ≡ a + 1 + i = omega arith in rw e at (h (suc i))))
+
 -- how many of n channels from `first` on are listed, the first one first
 many_front : (set first n : ℕ) → many set first (suc n) ≡ cond (in_set set first) 1 0 + many set (suc first) n
 unfolding many

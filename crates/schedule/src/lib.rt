@@ -34,12 +34,7 @@ fn hit(position: u32, from: u32, t: u32, mode: u8) -> bool
     requires { (from ≤ 1000) × (t ≤ 1290) }
     ensures { result ≡ hits position from t mode }
 {
-    for p in 0..=mode as u32 {
-        if position == from + p * t {
-            return true;
-        }
-    }
-    false
+    (0..mode as u32 + 1).any(|p| position == from + p * t)
 }
 
 // Whether channel i, set to x, pulses, its slot beginning at `from`.
