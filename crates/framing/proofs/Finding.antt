@@ -6,7 +6,11 @@ use Prim.Native.Nat.{ℕ, ◌+◌, ◌≤◌, ◌<◌}
 use native.Mathlib.Numerals.{add-one}
 use lib.ListN.{length, drop, get_or, drop_of_length-le}
 use lib.Seq.{drop-cons}
-use Rattle.framing.specs.Scan.{none, opens, closes, opened, scan}
+use native.Mathlib.Omega.{arith}
+use borrow.Author.Tests.{ne_eqb}
+use Rattle.std.specs.Prelude.{Some}
+use Rattle.framing.specs.declared.Found.{Found}
+use Rattle.framing.specs.Scan.{none, opens, closes, opened, scan, finished}
 
 module _ (prev body b at : ℕ) where
   pub opened_yes : opens prev b ≡ true → at + 1 ≡ opened prev body b at
@@ -30,3 +34,6 @@ module _ (prev body : ℕ) (s : List ℕ) (at : ℕ) where
   pub scan_end : length s ≤ at → scan prev body at (drop at s) ≡ none
   unfolding scan
   scan_end h = rw (drop_of_length-le s h)
+
+pub some_found : (f : Found) → 0 < f.used → Some f ≡ finished f
+some_found f h = rw (ne_eqb f.used 0 (λ (z : f.used ≡ 0). omega arith))

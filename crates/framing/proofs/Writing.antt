@@ -2,16 +2,17 @@
 use mathlib.Core.Path.{◌≡◌, refl, sym, ap, ap₂, ◌∙◌}
 use mathlib.Core.Bool.{Bool, true, false}
 use mathlib.Core.List.{List, [], ◌∷◌, ◌++◌}
+use Rattle.std.specs.Prelude.{Some}
 use Prim.Native.Nat.{ℕ, suc, ◌+◌, ◌≤◌, ◌<◌}
 use native.Mathlib.Nat.{add-zero, zero-add}
 use native.Mathlib.Omega.{arith}
 use lib.Dec.{leb}
 use lib.ListN.{length, drop, get_or, set, length-append}
 use lib.Seq.{sets, sets-eq}
-use borrow.Author.Tests.{leb-true, leb-false}
+use borrow.Author.Tests.{leb-true, leb-false, ne_eqb}
 use Rattle.stuffing.specs.Stuffing.{start_byte, stop_byte, pairs, stuffed}
 use Rattle.stuffing.proofs.Laws.{turn, turn_length, length_pairs}
-use Rattle.framing.specs.Packet.{body_of, packet_of, size_written, written_to}
+use Rattle.framing.specs.Packet.{body_of, packet_of, size_written, some_size, written_to}
 
 sets_append : (xs ys out : List ℕ) (at : ℕ) → sets out at (xs ++ ys) ≡ sets (sets out at xs) (at + length xs) ys
 sets_append [] ys out at = ap (λ (n : ℕ). sets out n ys) (sym (add-zero at))
@@ -54,6 +55,12 @@ module _ (h c : List ℕ) where
   pub written_no : (out : List ℕ) → leb (length (packet_of h c)) (length out) ≡ false → (0 ≡ size_written out h c) × (out ≡ written_to out h c)
   unfolding size_written written_to
   written_no out e = (rw e, rw e)
+
+-- its size, which is not 0, where it has room
+pub some_yes : (h c out : List ℕ) (n : ℕ) → n ≡ length (packet_of h c) → leb (length (packet_of h c)) (length out) ≡ true → Some n ≡ some_size (size_written out h c)
+some_yes h c out n e f =
+    let positive : n ≡ 0 → ⊥ = λ (z : n ≡ 0). omega (arith, length_packet h c) in
+    rw (sym (written_yes h c out f).0, sym e, ne_eqb n 0 positive)
 
 pub leb_same : (a b c d : ℕ) → (a ≤ b → c ≤ d) → (c ≤ d → a ≤ b) → leb a b ≡ leb c d
 leb_same a b c d f g = by (leb a b) (leb c d) refl refl

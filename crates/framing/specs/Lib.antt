@@ -1,3 +1,4 @@
 pub mod Packet
 pub mod Scan
 pub mod Blocks
+pub mod Walked

@@ -1,6 +1,6 @@
 -- Finding packets in a row of bytes (request 12): a start byte straight after a stuffing byte opens no packet, any other opens a new one; a stop byte
 -- straight after a stuffing byte closes none, any other closes the open one.
-use Rattle.std.specs.Prelude.{ℕ, ◌+◌, ◌-◌, List, [], ◌∷◌, Bool, cond, not, ◌&&◌, eqb, ltb, take, drop}
+use Rattle.std.specs.Prelude.{ℕ, ◌+◌, ◌-◌, List, [], ◌∷◌, Bool, cond, not, ◌&&◌, eqb, ltb, take, drop, Option, None, Some}
 use Rattle.stuffing.specs.Stuffing.{start_byte, stop_byte, stuffing_byte}
 use Rattle.framing.specs.declared.Found.{Found}
 
@@ -29,6 +29,10 @@ scan prev body at (b ∷ l) =
 -- in a slice, whose first byte has none before it: 0 stands for that
 abbrev pub first_found : List ℕ → Found
 first_found s = scan 0 0 0 s
+
+-- what is found, or nothing
+abbrev pub finished : Found → Option Found
+finished f = cond (eqb f.used 0) None (Some f)
 
 -- all packets that are finished, one after the other
 unfoldable pub founds : ℕ → ℕ → ℕ → List ℕ → List Found

@@ -4,14 +4,15 @@
 ghost use Rattle.std.specs.Prelude.{◌≡◌, ◌+◌, ◌-◌, ◌≤◌, cond, ◌||◌, eqb, leb, length, drop};
 ghost use Rattle.std.proofs.lemmas.List.Edits.{sets};
 ghost use Rattle.stuffing.specs.Stuffing.{start_byte, stop_byte, pair, stuffed_byte, stuffed, pairs};
-ghost use Rattle.framing.specs.Packet.{packet_of, size_written, written_to};
-ghost use Rattle.framing.specs.Scan.{opens, closes, scan};
+ghost use Rattle.framing.specs.Packet.{packet_of, size_written, some_size, written_to};
+ghost use Rattle.framing.specs.Scan.{opens, closes, scan, finished};
+ghost use Rattle.framing.specs.Walked.{Walks};
 ghost use Rattle.framing.specs.Blocks.{quiet};
 
 use stuffing::{KEY, START, STOP, STUFFING};
 
-// Where a finished packet lies: its first byte after the start, and the place after its stop; both 0 where none is finished.
-#[derive(Clone, Copy)]
+// Where a finished packet lies: its first byte after the start, and the place after its stop.
+#[derive(Clone, Copy, PartialEq, Eq, Debug)]
 pub struct Found {
     pub body: usize,
     pub used: usize,
@@ -43,10 +44,7 @@ fn block_end(n: usize, at: usize) -> usize
     requires { at ≤ n }
     ensures { result ≡ cond (leb 16 (n - at)) (at + 16) n }
 {
-    if BLOCK <= n - at {
-        return at + BLOCK;
-    }
-    n
+    if BLOCK <= n - at { at + BLOCK } else { n }
 }
 
 // Is a whole block left at place at, and no byte of it special?
@@ -54,76 +52,67 @@ fn is_quiet(s: &[u8], at: usize) -> bool
     requires { at ≤ length s.now }
     ensures { result ≡ quiet s.now at }
 {
-    if BLOCK <= s.len() - at {
-        return !stuffing::any_special(&s[at..at + BLOCK]);
-    }
-    false
+    BLOCK <= s.len() - at && !stuffing::any_special(&s[at..at + BLOCK])
 }
 
-// The bytes from at to end passed one by one: the packet that is finished there (used is not 0), or what is known behind them.
+// What a walk along some bytes comes to: a finished packet, or what is known behind the bytes, which is the last of them and where the body of the
+// open packet begins. A body never lies at 0, which stands for no open packet: an Option says no more, and is looked at for each byte.
 #[derive(Clone, Copy)]
-struct Walked {
-    prev: u8,
-    body: usize,
-    used: usize,
+enum Walked {
+    Finished(Found),
+    Unfinished { prev: u8, body: usize },
 }
 
+// The bytes from at to end passed one by one.
 fn walk(s: &[u8], last: u8, start: usize, from: usize, end: usize) -> Walked
     requires { (from ≤ end) × (end ≤ length s.now) }
-    ensures { scan last start from (drop from s.now) ≡ cond (eqb result.used 0) (scan result.prev result.body end (drop end s.now)) (record { body = result.body; used = result.used }) }
+    ensures { Walks result (scan last start from (drop from s.now)) end (drop end s.now) }
 {
     let mut prev = last;
     let mut body = start;
-    let mut at = from;
-    while at < end {
+    for at in from..end {
         let b = s[at];
         if is_mark(b) {
             if is_close(prev, body, b) {
-                return Walked {
-                    prev,
-                    body,
-                    used: at + 1,
-                };
+                let used = at + 1;
+                return Walked::Finished(Found { body, used });
             }
             if is_open(prev, b) {
                 body = at + 1;
             }
         }
         prev = b;
-        at += 1;
     }
-    Walked {
-        prev,
-        body,
-        used: 0,
-    }
+    Walked::Unfinished { prev, body }
 }
 
 // The first packet that is finished in s. In a quiet block nothing opens or closes, and no byte behind it stands straight after a stuffing byte.
-pub fn find(s: &[u8]) -> Found
-    ensures { result ≡ scan 0 0 0 s.now }
+pub fn find(s: &[u8]) -> Option<Found>
+    ensures { result ≡ finished (scan 0 0 0 s.now) }
 {
     let mut prev: u8 = 0;
-    let mut body: usize = 0;
-    let mut at: usize = 0;
+    let mut body = 0;
+    let mut at = 0;
+    // A turn goes to the end of a block.
     while at < s.len() {
         let end = block_end(s.len(), at);
         if is_quiet(s, at) {
             prev = 0;
         } else {
-            let w = walk(s, prev, body, at, end);
-            if w.used != 0 {
-                return Found {
-                    body: w.body,
-                    used: w.used,
-                };
+            match walk(s, prev, body, at, end) {
+                Walked::Finished(found) => return Some(found),
+                Walked::Unfinished {
+                    prev: last,
+                    body: open,
+                } => {
+                    prev = last;
+                    body = open;
+                }
             }
-            prev = w.prev;
-            body = w.body;
         }
         at = end;
     }
-    Found { body: 0, used: 0 }
+    None
 }
 
 // Puts b stuffed at place at, and gives the place after it.
@@ -142,10 +131,11 @@ fn put(out: &mut [u8], at: usize, b: u8) -> usize
     ensures { (result ≡ at + length (stuffed_byte b)) × (out.new ≡ sets out.old at (stuffed_byte b)) }
 {
     if stuffing::is_special(b) {
-        return put_pair(out, at, b);
+        put_pair(out, at, b)
+    } else {
+        out[at] = b;
+        at + 1
     }
-    out[at] = b;
-    at + 1
 }
 
 // Puts bytes from place at on, each stuffed if it must be, and gives the place after them.
@@ -154,10 +144,8 @@ fn put_stuffed(out: &mut [u8], at: usize, bytes: &[u8]) -> usize
     ensures { (result ≡ at + length (stuffed bytes.now)) × (out.new ≡ sets out.old at (stuffed bytes.now)) }
 {
     let mut to = at;
-    let mut i = 0;
-    while i < bytes.len() {
-        to = put(out, to, bytes[i]);
-        i += 1;
+    for b in bytes {
+        to = put(out, to, *b);
     }
     to
 }
@@ -168,10 +156,8 @@ fn put_pairs(out: &mut [u8], at: usize, bytes: &[u8]) -> usize
     ensures { (result ≡ at + length (pairs bytes.now)) × (out.new ≡ sets out.old at (pairs bytes.now)) }
 {
     let mut to = at;
-    let mut i = 0;
-    while i < bytes.len() {
-        to = put_pair(out, to, bytes[i]);
-        i += 1;
+    for b in bytes {
+        to = put_pair(out, to, *b);
     }
     to
 }
@@ -181,10 +167,7 @@ fn has_room(room: usize, header: &[u8], content: &[u8]) -> bool
     ensures { result ≡ leb (length (packet_of header.now content.now)) room }
 {
     let h = header.len();
-    if room / 2 <= h {
-        return false;
-    }
-    stuffing::stuffed_size(content) <= room - 2 * h - 2
+    h < room / 2 && stuffing::stuffed_size(content) <= room - 2 * h - 2
 }
 
 fn put_packet(out: &mut [u8], header: &[u8], content: &[u8]) -> usize
@@ -198,12 +181,14 @@ fn put_packet(out: &mut [u8], header: &[u8], content: &[u8]) -> usize
     b + 1
 }
 
-// Writes a packet to the start of out, and says how many bytes it has: 0 where out is too short, and then out stays.
-pub fn write(out: &mut [u8], header: &[u8], content: &[u8]) -> usize
-    ensures { (result ≡ size_written out.old header.now content.now) × (out.new ≡ written_to out.old header.now content.now) }
+// Writes a packet to the start of out, and says how many bytes it has: none where out is too short, and then out stays.
+pub fn write(out: &mut [u8], header: &[u8], content: &[u8]) -> Option<usize>
+    ensures size { result ≡ some_size (size_written out.old header.now content.now) }
+    ensures put { out.new ≡ written_to out.old header.now content.now }
 {
     if has_room(out.len(), header, content) {
-        return put_packet(out, header, content);
+        Some(put_packet(out, header, content))
+    } else {
+        None
     }
-    0
 }

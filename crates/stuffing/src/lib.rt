@@ -22,25 +22,13 @@ pub fn is_special(b: u8) -> bool
     (b == START) | ((b == STOP) | (b == STUFFING))
 }
 
-// The same as a number: numbers are joined many at a time.
-fn flag(b: u8) -> u8
-    ensures { result ≡ cond (special b) 1 0 }
-{
-    if is_special(b) {
-        return 1;
-    }
-    0
-}
-
-// Is any of these stuffed?
+// Is any of these stuffed? The answers are joined as numbers, many at a time.
 pub fn any_special(bytes: &[u8]) -> bool
     ensures { result ≡ any_special bytes.now }
 {
     let mut flags = 0;
-    let mut i = 0;
-    while i < bytes.len() {
-        flags = flags | flag(bytes[i]);
-        i += 1;
+    for b in bytes {
+        flags |= u8::from(is_special(*b));
     }
     0 < flags
 }
@@ -49,10 +37,7 @@ pub fn any_special(bytes: &[u8]) -> bool
 fn size(b: u8) -> usize
     ensures { result ≡ length (stuffed_byte b) }
 {
-    if is_special(b) {
-        return 2;
-    }
-    1
+    if is_special(b) { 2 } else { 1 }
 }
 
 // How many bytes these become.
@@ -60,10 +45,8 @@ pub fn stuffed_size(bytes: &[u8]) -> usize
     ensures { result ≡ length (stuffed bytes.now) }
 {
     let mut n = 0;
-    let mut i = 0;
-    while i < bytes.len() {
-        n += size(bytes[i]);
-        i += 1;
+    for b in bytes {
+        n += size(*b);
     }
     n
 }
@@ -80,52 +63,39 @@ fn is_wrong(after: bool, b: u8) -> bool
     ensures { result ≡ wrong_in after b }
 {
     if after {
-        return !is_special(b ^ KEY);
+        !is_special(b ^ KEY)
+    } else {
+        is_special(b) & (b != STUFFING)
     }
-    is_special(b) & (b != STUFFING)
 }
 
-// Whether stuffed bytes are as the writer makes them, and how many they stand for.
-#[derive(Clone, Copy)]
-pub struct Surveyed {
-    pub good: bool,
-    pub size: usize,
-}
-
-// Puts what these bytes stand for to the start of out, as far as it has room.
-pub fn unstuff(out: &mut [u8], s: &[u8]) -> Surveyed
-    ensures { (result ≡ record { good = pairs_good false s.now; size = length (unstuffed false s.now) }) × (out.new ≡ overlay (unstuffed false s.now) out.old) }
+// Puts what these bytes stand for to the start of out, as far as it has room, and says how many they are: as an error where these bytes are not
+// as the writer makes them.
+pub fn unstuff(out: &mut [u8], s: &[u8]) -> Result<usize, usize>
+    ensures counted { result ≡ cond (pairs_good false s.now) (Ok (length (unstuffed false s.now))) (Err (length (unstuffed false s.now))) }
+    ensures put { out.new ≡ overlay (unstuffed false s.now) out.old }
 {
     let mut good = true;
     let mut size = 0;
     let mut after = false;
-    let mut i = 0;
-    while i < s.len() {
-        let b = s[i];
-        good = good & !is_wrong(after, b);
-        let opens = opens_pair(after, b);
+    for b in s {
+        good &= !is_wrong(after, *b);
+        let opens = opens_pair(after, *b);
         if !opens {
-            let p = plain(after, b);
+            let p = plain(after, *b);
             put(out, size, p);
             size += 1;
         }
         after = opens;
-        i += 1;
     }
-    Surveyed {
-        good: good & !after,
-        size,
-    }
+    if good & !after { Ok(size) } else { Err(size) }
 }
 
 // What b stands for where it opens no pair.
 fn plain(after: bool, b: u8) -> u8
     ensures { result ≡ cond after (bit_xor b stuffing_key) b }
 {
-    if after {
-        return b ^ KEY;
-    }
-    b
+    if after { b ^ KEY } else { b }
 }
 
 // Puts b at place at, if out has it.

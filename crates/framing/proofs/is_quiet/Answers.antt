@@ -17,6 +17,6 @@ returns-then-s-at-ge-BLOCK c =
     let n : a.at + 16 - a.at ≡ 16 = omega arith in
     rw (le-leb 16 (length s - a.at) c.if-s-at-ge-BLOCK.true) (ap not (c.any_special.ensures ∙ ap (λ (k : ℕ). any_special (take k (drop a.at s))) n))
 
-pub returns : goal.returns
+pub returns-else-s-at-ge-BLOCK : goal.returns-else-s-at-ge-BLOCK
 unfolding quiet
-returns c = rw (lt-leb 16 (length c.args.s.now - c.args.at) c.if-s-at-ge-BLOCK.false)
+returns-else-s-at-ge-BLOCK c = rw (lt-leb 16 (length c.args.s.now - c.args.at) c.if-s-at-ge-BLOCK.false)

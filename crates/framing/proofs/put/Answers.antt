@@ -24,8 +24,8 @@ bounds-out-at c =
     let e = stuffed_plain a.b (sym c.is_special.ensures ∙ c.if-is_special.false) in
     omega (arith, ap length e)
 
-pub returns : goal.returns
-returns c =
+pub returns-else-is_special : goal.returns-else-is_special
+returns-else-is_special c =
     let a = c.args in
     let e = stuffed_plain a.b (sym c.is_special.ensures ∙ c.if-is_special.false) in
     (rw e, rw e)

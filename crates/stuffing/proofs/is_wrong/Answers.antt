@@ -9,5 +9,5 @@ use Rattle.stuffing.proofs.is_wrong.Goals as goal
 pub returns-then-after : goal.returns-then-after
 returns-then-after c = ap not c.is_special.ensures ∙ wrong_after c.args.b c.args.after c.if-after.true
 
-pub returns : goal.returns
-returns c = ap (λ (t : Bool). t && not (eqb c.args.b stuffing_byte)) c.is_special-2.ensures ∙ wrong_plain c.args.b c.args.after c.if-after.false
+pub returns-else-after : goal.returns-else-after
+returns-else-after c = ap (λ (t : Bool). t && not (eqb c.args.b stuffing_byte)) c.is_special-else-after.ensures ∙ wrong_plain c.args.b c.args.after c.if-after.false

@@ -7,5 +7,5 @@ use Rattle.stuffing.proofs.size.Goals as goal
 pub returns-then-is_special : goal.returns-then-is_special
 returns-then-is_special c = sym (ap length (stuffed_special c.args.b (sym c.is_special.ensures ∙ c.if-is_special.true)))
 
-pub returns : goal.returns
-returns c = sym (ap length (stuffed_plain c.args.b (sym c.is_special.ensures ∙ c.if-is_special.false)))
+pub returns-else-is_special : goal.returns-else-is_special
+returns-else-is_special c = sym (ap length (stuffed_plain c.args.b (sym c.is_special.ensures ∙ c.if-is_special.false)))
