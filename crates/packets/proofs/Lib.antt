@@ -15,3 +15,4 @@ pub mod Row
 pub mod ReadsBack
 pub mod WritesBack
 pub mod Checksum
+pub mod Telling

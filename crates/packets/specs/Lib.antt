@@ -6,3 +6,4 @@ pub mod Line
 pub mod Demand1
 pub mod RoundTrips
 pub mod Row
+pub mod Reported
