@@ -1,2 +1,3 @@
 pub mod Lawful
 pub mod FewPoints
+pub mod Asked
