@@ -1,4 +1,4 @@
-// What packets of RehaStim2 and RehaMove3 have in common, read and written: definitions and theorems over any generation, in specs/ and proofs/, 
+// What packets of RehaStim2 and RehaMove3 have in common, read and written: definitions and theorems over any generation, in specs/ and proofs/,
 // what the header of each tells of the bytes behind it, and one reader of all.
 #![tactic(auto)]
 
@@ -99,7 +99,10 @@ pub struct Refused {
 }
 
 // A packet whose covered bytes are those that the writer makes of the plain ones.
-fn read_plain<P: Protocol<MOST>, const MOST: usize>(plain: &[u8], out: &mut [u8]) -> Result<Meaning<P::Command>, Refusal>
+fn read_plain<P: Protocol<MOST>, const MOST: usize>(
+    plain: &[u8],
+    out: &mut [u8],
+) -> Result<Meaning<P::Command>, Refusal>
     ensures told { Tells P.generation result (covered_answer P.generation (stuffed plain.now) (length out.old)) (stuffed plain.now) }
     ensures put { out.new ≡ put (covered_answer P.generation (stuffed plain.now) (length out.old)) (stuffed plain.now) out.old }
 {
@@ -114,7 +117,10 @@ fn read_plain<P: Protocol<MOST>, const MOST: usize>(plain: &[u8], out: &mut [u8]
 }
 
 // Covered bytes. Where none is special they stand for themselves.
-fn read_covered<P: Protocol<MOST>, const MOST: usize>(covered: &[u8], out: &mut [u8]) -> Result<Meaning<P::Command>, Refusal>
+fn read_covered<P: Protocol<MOST>, const MOST: usize>(
+    covered: &[u8],
+    out: &mut [u8],
+) -> Result<Meaning<P::Command>, Refusal>
     requires { P.generation.size_good (length (plain covered.now)) ≡ true → length (plain covered.now) ≤ MOST }
     ensures told { Tells P.generation result (covered_answer P.generation covered.now (length out.old)) covered.now }
     ensures put { out.new ≡ put (covered_answer P.generation covered.now (length out.old)) covered.now out.old }
@@ -129,7 +135,10 @@ fn read_covered<P: Protocol<MOST>, const MOST: usize>(covered: &[u8], out: &mut 
     }
 }
 
-fn read_body<P: Protocol<MOST>, const MOST: usize>(body: &[u8], out: &mut [u8]) -> Result<Meaning<P::Command>, Refusal>
+fn read_body<P: Protocol<MOST>, const MOST: usize>(
+    body: &[u8],
+    out: &mut [u8],
+) -> Result<Meaning<P::Command>, Refusal>
     ensures told { Tells P.generation result (body_answer P.generation body.now (length out.old)) (covered P.generation body.now) }
     ensures put { out.new ≡ put (body_answer P.generation body.now (length out.old)) (covered P.generation body.now) out.old }
     ensures short { IfOk result (λ meaning. meaning.size ≤ P.generation.longest) }
@@ -154,7 +163,10 @@ fn used_up(refusal: Refusal, used: usize) -> usize
 }
 
 // Reads the first packet that is finished in s, and puts its data to the start of out.
-pub fn read<P: Protocol<MOST>, const MOST: usize>(s: &[u8], out: &mut [u8]) -> Result<Packet<P::Command>, Refused>
+pub fn read<P: Protocol<MOST>, const MOST: usize>(
+    s: &[u8],
+    out: &mut [u8],
+) -> Result<Packet<P::Command>, Refused>
     ensures read { reported P.generation result ≡ reading P.generation s.now (length out.old) }
     ensures put { out.new ≡ data_put P.generation s.now out.old }
     ensures short { IfOk result (λ packet. packet.meaning.size ≤ P.generation.longest) }

@@ -87,7 +87,7 @@ impl Protocol<62> for Rehastim2 {
             return None;
         }
         Some(Meaning {
-            packet: content[0],
+            packet: slices::byte_at(content, 0),
             command,
             size,
         })
