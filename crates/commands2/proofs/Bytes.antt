@@ -4,10 +4,11 @@ use mathlib.Core.Path.{◌≡◌, refl, sym, ap, ◌∙◌}
 use mathlib.Core.Bool.{Bool, true, false, ◌&&◌, and-true}
 use native.Mathlib.Omega.{arith}
 use lib.Dec.{leb, ltb, eqb, leb-suc-zero, eqb-suc-zero}
-use lib.IntN.{ℤ, pos, negsuc, ◌+ℤ◌, ◌-ℤ◌}
-use lib.Signed.{le_z, lt_z}
+use lib.IntN.{ℤ, pos, negsuc}
+use lib.Signed.{le_z}
 use mir.Syntax.{w8}
-use mir.Val.{SFits, of_z}
+use mir.Val.{SFits, of_z, to_z}
+use mir.Facts.{to_z_pos, to_z-neg}
 use borrow.Author.Tests.{leb-true, ltb-true, ltb-false, eqb-true, lt-ltb, le-ltb, eq-eqb, ne_eqb}
 use Rattle.commands2.specs.Results.{no_error, good_result, byte_of, signed_of}
 
@@ -43,32 +44,22 @@ signed_high : (b : ℕ) → 128 ≤ b → signed_of b ≡ negsuc (255 - b)
 unfolding signed_of
 signed_high b h = rw (le-ltb b 128 h)
 
-pub less_256 : (b : ℕ) → 128 ≤ b → b < 256 → pos b -ℤ pos 256 ≡ signed_of b
-less_256 b l h = rw (signed_high b l, lt-ltb b 256 h) (ap negsuc (omega arith))
-
-pub signed_fits : (b : ℕ) → b < 256 → SFits w8 (signed_of b)
-signed_fits b h = by (ltb b 128) refl
+pub signed_is : (b : ℕ) → b < 256 → to_z w8 b ≡ signed_of b
+signed_is b h = by (ltb b 128) refl
   where
-    by : (t : Bool) → ltb b 128 ≡ t → SFits w8 (signed_of b)
-    by true e = rw (signed_low b (ltb-true b 128 e)) (record { sfits = ltb-true b 128 e })
-    by false e = rw (signed_high b (ltb-false b 128 e)) (record { sfits = omega (arith, ltb-false b 128 e) })
+    by : (t : Bool) → ltb b 128 ≡ t → to_z w8 b ≡ signed_of b
+    by true e = let l = ltb-true b 128 e in to_z_pos w8 l ∙ sym (signed_low b l)
+    by false e =
+        let l = ltb-false b 128 e in
+        let n : 256 - suc (255 - b) ≡ b = omega arith in
+        (rw n at (to_z-neg w8 (255 - b) (omega arith))) ∙ sym (signed_high b l)
 
 -- ---- the byte that holds it
 
-pub plus_256 : (z : ℤ) → SFits w8 z → lt_z z (pos 0) ≡ true → z +ℤ pos 256 ≡ pos (byte_of z)
+pub byte_is : (z : ℤ) → of_z w8 z ≡ byte_of z
 unfolding byte_of
-plus_256 (pos n) f e = absurd (omega (arith, ltb-true n 0 e))
-plus_256 (negsuc n) f e = rw (le-ltb 256 (suc n) (omega (arith, f.sfits))) (ap pos (omega arith))
-
-pub plain_byte : (z : ℤ) → lt_z z (pos 0) ≡ false → z ≡ pos (byte_of z)
-unfolding byte_of
-plain_byte (pos n) e = refl
-plain_byte (negsuc n) e = cc
-
-pub byte_below : (z : ℤ) → SFits w8 z → byte_of z < 256
-unfolding byte_of
-byte_below (pos n) f = omega (arith, f.sfits)
-byte_below (negsuc n) f = omega arith
+byte_is (pos n) = refl
+byte_is (negsuc n) = omega arith
 
 -- ---- there and back
 

@@ -1,3 +1,2 @@
 pub mod Results
 pub mod Commands
-pub mod ByValue

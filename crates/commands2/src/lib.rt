@@ -4,9 +4,11 @@
 pub mod numbers;
 mod results;
 
-ghost use Rattle.std.specs.Prelude.{◌≡◌, [], ◌∷◌, length};
+ghost use Rattle.std.specs.Prelude.{◌≡◌, ◌≤◌, length};
 ghost use Rattle.commands2.specs.Commands.{number_of, data_of, good_list, good_mode, good, list_in, command_of, is_other, right};
-ghost use Rattle.commands2.specs.ByValue.{by_value, data_by_value};
+ghost use Rattle.commands2.specs.declared.Command.TheVariants.{GetStimulationModeAck, InitChannelListMode};
+
+use arrayvec::ArrayVec;
 
 // What an InitChannelListMode sets (section 4.3): the low frequency factor, the active channels, the active low frequency channels, the inter
 // pulse interval and the main stimulation interval as they are coded, the channel execution.
@@ -38,14 +40,14 @@ pub fn number(c: Command) -> u8
     ensures { result ≡ number_of c }
 {
     match c {
-        Command::Init { version: _ } => numbers::INIT,
-        Command::InitAck { result: _ } => numbers::INIT_ACK,
-        Command::UnknownCommand { echo: _ } => numbers::UNKNOWN_COMMAND,
+        Command::Init { .. } => numbers::INIT,
+        Command::InitAck { .. } => numbers::INIT_ACK,
+        Command::UnknownCommand { .. } => numbers::UNKNOWN_COMMAND,
         Command::Watchdog => numbers::WATCHDOG,
         Command::GetStimulationMode => numbers::GET_STIMULATION_MODE,
-        Command::GetStimulationModeAck { result: _, mode: _ } => numbers::GET_STIMULATION_MODE_ACK,
-        Command::InitChannelListMode { list: _ } => numbers::INIT_CHANNEL_LIST_MODE,
-        Command::InitChannelListModeAck { result: _ } => numbers::INIT_CHANNEL_LIST_MODE_ACK,
+        Command::GetStimulationModeAck { .. } => numbers::GET_STIMULATION_MODE_ACK,
+        Command::InitChannelListMode { .. } => numbers::INIT_CHANNEL_LIST_MODE,
+        Command::InitChannelListModeAck { .. } => numbers::INIT_CHANNEL_LIST_MODE_ACK,
         Command::Other { number } => number,
     }
 }
@@ -68,90 +70,72 @@ pub fn good(c: Command) -> bool
     ensures { result ≡ good c }
 {
     match c {
-        Command::Init { version: _ } => true,
+        Command::Init { .. }
+        | Command::UnknownCommand { .. }
+        | Command::Watchdog
+        | Command::GetStimulationMode => true,
         Command::InitAck { result } => results::good(result),
-        Command::UnknownCommand { echo: _ } => true,
-        Command::Watchdog => true,
-        Command::GetStimulationMode => true,
         Command::GetStimulationModeAck { result, mode } => {
             results::good(result) & good_mode(result == 0, mode)
         }
         Command::InitChannelListMode { list } => good_list(list),
         Command::InitChannelListModeAck { result } => results::good(result),
-        Command::Other { number: _ } => false,
+        Command::Other { .. } => false,
     }
 }
 
 // ---- data bytes
 
-// The data bytes by value, zeros behind them, and how many they are.
-#[derive(Clone, Copy)]
-pub struct Data {
-    pub bytes: [u8; 7],
-    pub size: usize,
-}
-
-const NONE: Data = Data {
-    bytes: [0; 7],
-    size: 0,
-};
-
-fn one(b: u8) -> Data
-    ensures { result ≡ by_value (b ∷ []) }
+// These bytes.
+fn row(b: &[u8]) -> ArrayVec<u8, 7>
+    requires { length b.now ≤ 7 }
+    ensures { result.items ≡ b.now }
 {
-    Data {
-        bytes: [b, 0, 0, 0, 0, 0, 0],
-        size: 1,
-    }
+    let mut bytes = ArrayVec::new();
+    bytes.try_extend_from_slice(b).unwrap();
+    bytes
 }
 
 // The mode byte is there exactly if the result is 0.
-fn mode_data(res: i8, mode: u8) -> Data
-    ensures { result ≡ data_by_value (Command.GetStimulationModeAck res mode) }
+#[tactic(auto, using(crate::proofs::Bytes::no_error_lem, crate::proofs::Bytes::error, crate::proofs::Bytes::byte_is))]
+fn mode_data(res: i8, mode: u8) -> ArrayVec<u8, 7>
+    ensures { result.items ≡ data_of (GetStimulationModeAck res mode) }
 {
-    let b = results::byte(res);
+    let b = res.cast_unsigned();
     if res == 0 {
-        return Data {
-            bytes: [b, mode, 0, 0, 0, 0, 0],
-            size: 2,
-        };
+        return row(&[b, mode]);
     }
-    one(b)
+    row(&[b])
 }
 
 // The main interval has its high byte first.
-fn list_data(list: ChannelList) -> Data
-    ensures { result ≡ data_by_value (Command.InitChannelListMode list) }
+fn list_data(list: ChannelList) -> ArrayVec<u8, 7>
+    ensures { result.items ≡ data_of (InitChannelListMode list) }
 {
-    let high = (list.main / 256) as u8;
-    let low = (list.main % 256) as u8;
-    Data {
-        bytes: [
-            list.factor,
-            list.active,
-            list.lf,
-            list.inter,
-            high,
-            low,
-            list.execution,
-        ],
-        size: 7,
-    }
+    let [high, low] = list.main.to_be_bytes();
+    row(&[
+        list.factor,
+        list.active,
+        list.lf,
+        list.inter,
+        high,
+        low,
+        list.execution,
+    ])
 }
 
-pub fn data_of(c: Command) -> Data
-    ensures { result ≡ data_by_value c }
+#[tactic(auto, using(crate::proofs::Bytes::byte_is))]
+pub fn data_of(c: Command) -> ArrayVec<u8, 7>
+    ensures { result.items ≡ data_of c }
 {
     match c {
-        Command::Init { version } => one(version),
-        Command::InitAck { result } => one(results::byte(result)),
-        Command::UnknownCommand { echo } => one(echo),
-        Command::Watchdog => NONE,
-        Command::GetStimulationMode => NONE,
+        Command::Init { version } => row(&[version]),
+        Command::InitAck { result } => row(&[result.cast_unsigned()]),
+        Command::UnknownCommand { echo } => row(&[echo]),
         Command::GetStimulationModeAck { result, mode } => mode_data(result, mode),
         Command::InitChannelListMode { list } => list_data(list),
-        Command::InitChannelListModeAck { result } => one(results::byte(result)),
-        Command::Other { number: _ } => NONE,
+        Command::InitChannelListModeAck { result } => row(&[result.cast_unsigned()]),
+        Command::Watchdog | Command::GetStimulationMode | Command::Other { .. } => ArrayVec::new(),
     }
 }
 
@@ -160,22 +144,24 @@ pub fn data_of(c: Command) -> Data
 fn list_in(d: [u8; 7]) -> ChannelList
     ensures { result ≡ list_in d }
 {
+    let [factor, active, lf, inter, high, low, execution] = d;
     ChannelList {
-        factor: d[0],
-        active: d[1],
-        lf: d[2],
-        inter: d[3],
-        main: d[4] as u16 * 256 + d[5] as u16,
-        execution: d[6],
+        factor,
+        active,
+        lf,
+        inter,
+        main: u16::from_be_bytes([high, low]),
+        execution,
     }
 }
 
 // The command of a number, with its values from the first seven data bytes.
+#[tactic(auto, using(crate::proofs::Bytes::signed_is), unfolding(crate::specs::Commands::command_of))]
 pub fn command_of(number: u8, d: [u8; 7]) -> Command
     ensures { result ≡ command_of number d }
 {
     let first = d[0];
-    let result = results::signed(first);
+    let result = first.cast_signed();
     match number {
         numbers::INIT => Command::Init { version: first },
         numbers::INIT_ACK => Command::InitAck { result },
@@ -190,19 +176,18 @@ pub fn command_of(number: u8, d: [u8; 7]) -> Command
 }
 
 // How many data bytes a command asks for.
+#[tactic(auto, using(crate::proofs::Bytes::no_error_lem, crate::proofs::Bytes::error))]
 fn data_size(c: Command) -> usize
     ensures { result ≡ length (data_of c) }
 {
     match c {
-        Command::Init { version: _ } => 1,
-        Command::InitAck { result: _ } => 1,
-        Command::UnknownCommand { echo: _ } => 1,
-        Command::Watchdog => 0,
-        Command::GetStimulationMode => 0,
-        Command::GetStimulationModeAck { result, mode: _ } => { if result == 0 { 2 } else { 1 } }
-        Command::InitChannelListMode { list: _ } => 7,
-        Command::InitChannelListModeAck { result: _ } => 1,
-        Command::Other { number: _ } => 0,
+        Command::Init { .. }
+        | Command::InitAck { .. }
+        | Command::UnknownCommand { .. }
+        | Command::InitChannelListModeAck { .. } => 1,
+        Command::GetStimulationModeAck { result, .. } => if result == 0 { 2 } else { 1 },
+        Command::InitChannelListMode { .. } => 7,
+        Command::Watchdog | Command::GetStimulationMode | Command::Other { .. } => 0,
     }
 }
 
@@ -211,7 +196,7 @@ pub fn right(c: Command, size: usize) -> bool
     ensures { result ≡ right c size }
 {
     match c {
-        Command::Other { number: _ } => true,
+        Command::Other { .. } => true,
         _ => good(c) & (data_size(c) == size),
     }
 }

@@ -1,8 +1,0 @@
--- `commands2::list_data` meets its contract. Assumes nothing.
-use mathlib.Core.Path.{refl}
-use Rattle.commands2.specs.ByValue.{by_value}
-use Rattle.commands2.proofs.list_data.Goals as goal
-
-pub returns : goal.returns
-unfolding by_value
-returns c = refl
