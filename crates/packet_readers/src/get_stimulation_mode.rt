@@ -28,14 +28,7 @@ pub extern "C" fn yarrowbell_rehastim2_read_get_stimulation_mode(
 ) -> ReadEmpty
     ensures { (result ≡ as_empty (as_packet (read_packet s.now (length out.old)))) × (out.new ≡ data_put rehastim2 s.now out.old) }
 {
-    let p = packet::yarrowbell_rehastim2_read(s, out);
-    ReadEmpty {
-        used: p.used,
-        answer: p.answer as u16,
-        packet: p.packet as u16,
-        command: p.command as u16,
-        size: p.size as u16,
-    }
+    ReadEmpty::from(packet::yarrowbell_rehastim2_read(s, out))
 }
 
 #[unsafe(no_mangle)]

@@ -5,7 +5,7 @@ ghost use Rattle.packets2.specs.Rehastim2.{rehastim2};
 ghost use Rattle.reader2.specs.Reader.{read_packet};
 ghost use Rattle.packet_readers.specs.Reports.{as_packet, as_list, as_result};
 
-use crate::packet::ReadResult;
+use crate::result::ReadResult;
 use crate::{packet, result};
 use commands2::numbers;
 
@@ -56,12 +56,5 @@ pub extern "C" fn yarrowbell_rehastim2_read_init_channel_list_mode_ack(
     ensures { (result ≡ as_result 31 (as_packet (read_packet s.now (length out.old)))) × (out.new ≡ data_put rehastim2 s.now out.old) }
 {
     let p = packet::yarrowbell_rehastim2_read(s, out);
-    ReadResult {
-        used: p.used,
-        answer: p.answer as u16,
-        packet: p.packet as u16,
-        command: p.command as u16,
-        size: p.size,
-        result: result::result_for(numbers::INIT_CHANNEL_LIST_MODE_ACK, p),
-    }
+    result::report(numbers::INIT_CHANNEL_LIST_MODE_ACK, p)
 }

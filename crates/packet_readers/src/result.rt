@@ -1,15 +1,38 @@
 // The result of an acknowledgement.
 ghost use Rattle.std.specs.Prelude.{◌≡◌};
-ghost use Rattle.packet_readers.specs.Reports.{result_for};
+ghost use Rattle.packet_readers.specs.Reports.{result_for, as_result};
 
 use crate::packet::ReadPacket;
 
-// The result, if the command has this number.
+// What the readers of acknowledgements with a result alone hand back.
+#[repr(C)]
+#[derive(Clone, Copy)]
+pub struct ReadResult {
+    pub used: usize,
+    pub answer: u16,
+    pub packet: u16,
+    pub command: u16,
+    pub size: u8,
+    pub result: i8,
+}
+
+// The result, if the command has this number. The RehaMove3's is another: C gives result and command other types there.
+#[tactic(auto, unfolding(crate::specs::Reports::result_for))]
 pub fn result_for(number: u8, p: ReadPacket) -> i8
     ensures { result ≡ result_for number p }
 {
-    if p.command == number {
-        return p.result;
+    if p.command == number { p.result } else { 0 }
+}
+
+pub fn report(number: u8, p: ReadPacket) -> ReadResult
+    ensures { result ≡ as_result number p }
+{
+    ReadResult {
+        used: p.used,
+        answer: p.answer as u16,
+        packet: p.packet as u16,
+        command: p.command as u16,
+        size: p.size,
+        result: result_for(number, p),
     }
-    0
 }

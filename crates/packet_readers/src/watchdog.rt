@@ -12,12 +12,5 @@ use crate::packet::ReadEmpty;
 pub extern "C" fn yarrowbell_rehastim2_read_watchdog(s: &[u8], out: &mut [u8]) -> ReadEmpty
     ensures { (result ≡ as_empty (as_packet (read_packet s.now (length out.old)))) × (out.new ≡ data_put rehastim2 s.now out.old) }
 {
-    let p = packet::yarrowbell_rehastim2_read(s, out);
-    ReadEmpty {
-        used: p.used,
-        answer: p.answer as u16,
-        packet: p.packet as u16,
-        command: p.command as u16,
-        size: p.size as u16,
-    }
+    ReadEmpty::from(packet::yarrowbell_rehastim2_read(s, out))
 }

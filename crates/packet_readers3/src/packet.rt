@@ -3,7 +3,7 @@ ghost use Rattle.std.specs.Prelude.{◌≡◌, ◌≤◌, length};
 ghost use Rattle.packets.specs.Reader.{data_put};
 ghost use Rattle.packets3.specs.Rehamove3.{rehamove3};
 ghost use Rattle.reader3.specs.Reader.{read_packet};
-ghost use Rattle.packet_readers3.specs.Reports.{values, values_of, as_packet};
+ghost use Rattle.packet_readers3.specs.Reports.{values_of, as_packet};
 
 use charge::Point;
 use commands3::Command;
@@ -19,6 +19,7 @@ struct Values {
     channel: u8,
 }
 
+// Its first fields stand in every struct that is handed back: C's layouts give them other places and widths.
 #[repr(C)]
 #[derive(Clone, Copy)]
 pub struct ReadPacket {
@@ -37,33 +38,42 @@ pub struct ReadPacket {
     pub points: [Point; 16],
 }
 
-fn tell(voltage: u8, res: u8, electrode: u8, execution: u8, channel: u8) -> Values
-    ensures { result ≡ values voltage res electrode execution channel }
-{
-    Values {
-        voltage,
-        result: res,
-        electrode,
-        execution,
-        channel,
-    }
-}
+const NO_VALUES: Values = Values {
+    voltage: 0,
+    result: 0,
+    electrode: 0,
+    execution: 0,
+    channel: 0,
+};
 
 fn values_of(c: Command) -> Values
     ensures { result ≡ values_of c }
 {
     match c {
-        Command::LlInit { voltage } => tell(voltage, 0, 0, 0, 0),
-        Command::LlInitAck { result } => tell(0, result, 0, 0, 0),
-        Command::LlChannelConfig { execution, channel } => tell(0, 0, 0, execution, channel),
-        Command::LlChannelConfigAck { result, electrode } => tell(0, result, electrode, 0, 0),
-        Command::LlStop => tell(0, 0, 0, 0, 0),
-        Command::LlStopAck { result } => tell(0, result, 0, 0, 0),
-        Command::Other { number: _ } => tell(0, 0, 0, 0, 0),
+        Command::LlInit { voltage } => Values {
+            voltage,
+            ..NO_VALUES
+        },
+        Command::LlInitAck { result } | Command::LlStopAck { result } => Values {
+            result,
+            ..NO_VALUES
+        },
+        Command::LlChannelConfig { execution, channel } => Values {
+            execution,
+            channel,
+            ..NO_VALUES
+        },
+        Command::LlChannelConfigAck { result, electrode } => Values {
+            result,
+            electrode,
+            ..NO_VALUES
+        },
+        Command::LlStop | Command::Other { .. } => NO_VALUES,
     }
 }
 
 // What is read has at most sixteen points.
+#[tactic(auto, unfolding(crate::specs::Reports::as_packet))]
 fn report(r: Read) -> ReadPacket
     requires { r.message.pulse.number ≤ 16 }
     ensures { result ≡ as_packet r }

@@ -16,14 +16,12 @@ pub struct ReadResult {
     pub result: u16,
 }
 
-// The result, if the command has this number.
+// The result, if the command has this number. ScienceMode2's is another: C gives result and command other types there.
+#[tactic(auto, unfolding(crate::specs::Reports::result_for))]
 pub fn result_for(number: u16, p: ReadPacket) -> u8
     ensures { result ≡ result_for number p }
 {
-    if p.command == number {
-        return p.result;
-    }
-    0
+    if p.command == number { p.result } else { 0 }
 }
 
 pub fn report(number: u16, p: ReadPacket) -> ReadResult

@@ -1,7 +1,7 @@
 -- What is handed back of a pulse's weight: 4 for a pulse that is not good, of which no charge is told.
-use Rattle.std.specs.Prelude.{cond}
-use Rattle.charge.specs.declared.Weighed as charge
+use Rattle.std.specs.Prelude.{ℤ, pos, Option, Some, None}
 use Rattle.packet_writers3.specs.declared.net_charge.Weighed.{Weighed}
 
-abbrev pub weighed_as : charge.Weighed → Weighed
-weighed_as w = record { charge = w.charge; answer = cond w.good 0 4 }
+abbrev pub weighed_as : Option ℤ → Weighed
+weighed_as (Some charge) = record { charge = charge; answer = 0 }
+weighed_as None = record { charge = pos 0; answer = 4 }

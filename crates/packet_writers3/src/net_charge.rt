@@ -17,15 +17,14 @@ pub struct Weighed {
 pub extern "C" fn yarrowbell_rehamove3_charge(pulse: Pulse) -> Weighed
     ensures { result ≡ weighed_as (weighed pulse) }
 {
-    let w = charge::weigh(pulse);
-    if w.good {
-        return Weighed {
-            charge: w.charge,
+    match charge::weigh(pulse) {
+        Some(charge) => Weighed {
+            charge,
             answer: answers::DONE as u32,
-        };
-    }
-    Weighed {
-        charge: w.charge,
-        answer: answers::NOT_GOOD as u32,
+        },
+        None => Weighed {
+            charge: 0,
+            answer: answers::NOT_GOOD as u32,
+        },
     }
 }
