@@ -31,16 +31,6 @@ computed = (refl, refl)
 
 -- ---- the Check of a command
 
--- an entry more
-pub entry_turn : (remainder : ℕ) (v : Setting) (vs : List Setting)
-    → reduced 32 (reduced 32 remainder (v.mode ∷ v.width ∷ v.current ∷ [])) (settings_variables vs) ≡ reduced 32 remainder (settings_variables (v ∷ vs))
-unfolding reduced settings_variables
-entry_turn remainder v vs = refl
-
-pub entry_end : (remainder : ℕ) → reduced 32 remainder (settings_variables []) ≡ remainder
-unfolding reduced settings_variables
-entry_end remainder = refl
-
 -- one variable after the other
 pub one_by_one : (remainder : ℕ) (xs : List ℕ) → fold (λ r x. (r + x) % 32) remainder xs ≡ reduced 32 remainder xs
 unfolding reduced

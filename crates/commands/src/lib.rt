@@ -63,7 +63,7 @@ pub const NO_SINGLE: Single = Single {
     current: 0,
 };
 
-// What a writer reports, of frames or of packets: its answer and the bytes written.
+// What a writer reports, of frames or of packets: its answer and the bytes written, as the C struct has them.
 #[repr(C)]
 #[derive(Clone, Copy, Debug, PartialEq, Eq)]
 pub struct Wrote {

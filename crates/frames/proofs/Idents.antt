@@ -9,10 +9,6 @@ use Rattle.bits.specs.Fields.{field}
 use Rattle.commands.specs.Commands.{Command.init, Command.update, Command.stop, Command.single}
 use Rattle.frames.specs.Layout.{ident_in, init_word, init_of, entries_in, single_in, command_in, check_in}
 
--- an Ident has two bits
-pub last_ident : (s : List ℕ) → (ident_in s ≡ 0 → ⊥) → (ident_in s ≡ 1 → ⊥) → (ident_in s ≡ 2 → ⊥) → ident_in s ≡ 3
-last_ident s i u p = omega arith
-
 -- its command
 module _ (s : List ℕ) (count : ℕ) where
   pub init_here : ident_in s ≡ 0 → command_in s count ≡ init (init_of (init_word s))

@@ -19,6 +19,7 @@ pub const MODE_BIT: u64 = 5;
 pub const CHANNEL_BIT: u64 = 4;
 
 // A command's fields by value; those of other kinds are zero.
+// Flat, as `fields_of` has them and the exports' C structs tell them.
 #[derive(Clone, Copy, Debug, PartialEq, Eq)]
 pub struct Fields {
     pub ident: u8,

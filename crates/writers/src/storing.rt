@@ -31,6 +31,7 @@ pub fn put_init(v: Init, out: &mut [u8])
     requires { (good (init v) ≡ true) × (6 ≤ length out.old) }
     ensures { out.new ≡ sets out.old 0 (frame (init v)) }
 {
+    // Byte by byte: a loop over the shifts would be no plainer, since the first byte alone has eight bits.
     let w = init_number(checks::check_init(v), v);
     out[0] = bits::take_field(w, 35, 8) as u8;
     out[1] = bits::take_field(w, 28, 7) as u8;
