@@ -175,7 +175,7 @@ pub fn command_of(number: u8, d: [u8; 7]) -> Command
     }
 }
 
-// How many data bytes a command asks for.
+// How many data bytes a command asks for: told apart from data_of, for reading makes no bytes.
 #[tactic(auto, using(crate::proofs::Bytes::no_error_lem, crate::proofs::Bytes::error))]
 fn data_size(c: Command) -> usize
     ensures { result ≡ length (data_of c) }
