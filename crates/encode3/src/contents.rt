@@ -30,7 +30,9 @@ fn put(bytes: &mut ArrayVec<u8, 67>, more: &[u8])
     requires { array_vec_len bytes.old + length more.now ≤ 67 }
     ensures { bytes.new.items ≡ bytes.old.items ++ more.now }
 {
-    bytes.try_extend_from_slice(more).unwrap();
+    for b in more {
+        bytes.push(*b);
+    }
 }
 
 fn put_points(bytes: &mut ArrayVec<u8, 67>, points: &[Point])
