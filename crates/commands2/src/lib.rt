@@ -4,11 +4,9 @@
 pub mod numbers;
 mod results;
 
-ghost use Rattle.std.specs.Prelude.{◌≡◌, ◌≤◌, length};
+ghost use Rattle.std.specs.Prelude.{◌≡◌, [], ◌∷◌, length};
 ghost use Rattle.commands2.specs.Commands.{number_of, data_of, good_list, good_mode, good, list_in, command_of, is_other, right};
-ghost use Rattle.commands2.specs.declared.Command.TheVariants.{GetStimulationModeAck, InitChannelListMode};
-
-use arrayvec::ArrayVec;
+ghost use Rattle.commands2.specs.ByValue.{by_value, data_by_value};
 
 // What an InitChannelListMode sets (section 4.3): the low frequency factor, the active channels, the active low frequency channels, the inter
 // pulse interval and the main stimulation interval as they are coded, the channel execution.
@@ -86,56 +84,75 @@ pub fn good(c: Command) -> bool
 
 // ---- data bytes
 
-// These bytes.
-fn row(b: &[u8]) -> ArrayVec<u8, 7>
-    requires { length b.now ≤ 7 }
-    ensures { result.items ≡ b.now }
+// The data bytes by value, zeros behind them, and how many they are. As an ArrayVec they cost a short packet half as much time again.
+#[derive(Clone, Copy)]
+pub struct Data {
+    pub bytes: [u8; 7],
+    pub size: usize,
+}
+
+const NONE: Data = Data {
+    bytes: [0; 7],
+    size: 0,
+};
+
+#[tactic(auto, unfolding(crate::specs::ByValue::by_value))]
+fn one(b: u8) -> Data
+    ensures { result ≡ by_value (b ∷ []) }
 {
-    let mut bytes = ArrayVec::new();
-    bytes.try_extend_from_slice(b).unwrap();
-    bytes
+    Data {
+        bytes: [b, 0, 0, 0, 0, 0, 0],
+        size: 1,
+    }
 }
 
 // The mode byte is there exactly if the result is 0.
-#[tactic(auto, using(crate::proofs::Bytes::no_error_lem, crate::proofs::Bytes::error, crate::proofs::Bytes::byte_is))]
-fn mode_data(res: i8, mode: u8) -> ArrayVec<u8, 7>
-    ensures { result.items ≡ data_of (GetStimulationModeAck res mode) }
+#[tactic(auto, using(crate::proofs::Bytes::no_error_lem, crate::proofs::Bytes::error, crate::proofs::Bytes::byte_is), unfolding(crate::specs::ByValue::by_value))]
+fn mode_data(res: i8, mode: u8) -> Data
+    ensures { result ≡ data_by_value (Command.GetStimulationModeAck res mode) }
 {
     let b = res.cast_unsigned();
     if res == 0 {
-        return row(&[b, mode]);
+        return Data {
+            bytes: [b, mode, 0, 0, 0, 0, 0],
+            size: 2,
+        };
     }
-    row(&[b])
+    one(b)
 }
 
 // The main interval has its high byte first.
-fn list_data(list: ChannelList) -> ArrayVec<u8, 7>
-    ensures { result.items ≡ data_of (InitChannelListMode list) }
+#[tactic(auto, unfolding(crate::specs::ByValue::by_value))]
+fn list_data(list: ChannelList) -> Data
+    ensures { result ≡ data_by_value (Command.InitChannelListMode list) }
 {
     let [high, low] = list.main.to_be_bytes();
-    row(&[
-        list.factor,
-        list.active,
-        list.lf,
-        list.inter,
-        high,
-        low,
-        list.execution,
-    ])
+    Data {
+        bytes: [
+            list.factor,
+            list.active,
+            list.lf,
+            list.inter,
+            high,
+            low,
+            list.execution,
+        ],
+        size: 7,
+    }
 }
 
-#[tactic(auto, using(crate::proofs::Bytes::byte_is))]
-pub fn data_of(c: Command) -> ArrayVec<u8, 7>
-    ensures { result.items ≡ data_of c }
+#[tactic(auto, using(crate::proofs::Bytes::byte_is), unfolding(crate::specs::ByValue::by_value))]
+pub fn data_of(c: Command) -> Data
+    ensures { result ≡ data_by_value c }
 {
     match c {
-        Command::Init { version } => row(&[version]),
-        Command::InitAck { result } => row(&[result.cast_unsigned()]),
-        Command::UnknownCommand { echo } => row(&[echo]),
+        Command::Init { version } => one(version),
+        Command::InitAck { result } => one(result.cast_unsigned()),
+        Command::UnknownCommand { echo } => one(echo),
         Command::GetStimulationModeAck { result, mode } => mode_data(result, mode),
         Command::InitChannelListMode { list } => list_data(list),
-        Command::InitChannelListModeAck { result } => row(&[result.cast_unsigned()]),
-        Command::Watchdog | Command::GetStimulationMode | Command::Other { .. } => ArrayVec::new(),
+        Command::InitChannelListModeAck { result } => one(result.cast_unsigned()),
+        Command::Watchdog | Command::GetStimulationMode | Command::Other { .. } => NONE,
     }
 }
 
