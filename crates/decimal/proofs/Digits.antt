@@ -1,13 +1,16 @@
 -- Laws of a number's digits: how many there are, and that each is one. Assumes nothing.
-use Prim.Native.Nat.{ℕ, zero, suc, ◌+◌, ◌/◌, ◌%◌, ◌^◌, ◌≤◌, ◌<◌}
+use Prim.Native.Nat.{ℕ, zero, suc, ◌+◌, ◌/◌, ◌%◌, ◌*◌, ◌^◌, ◌≤◌, ◌<◌}
 use mathlib.Core.Bool.{true}
 use mathlib.Core.Logic.{⊎_elim}
-use mathlib.Core.Path.{◌≡◌}
-use mathlib.Core.List.{List, [], ◌∷◌, ◌++◌}
+use mathlib.Core.Path.{◌≡◌, sym, ap, subst, ◌∙◌}
+use mathlib.Core.List.{List, [], ◌∷◌, ◌++◌, append_assoc}
 use native.Mathlib.Omega.{arith, pow_step}
 use borrow.Author.Tests.{lt-ltb, le-ltb, le-leb, leb-true}
 use lib.Dec.{leb}
-use lib.ListN.{length, length-append}
+use Rattle.std.specs.Prelude.{Option, Some, None, IfNone, IfSome, unwrap_or}
+use lib.ListN.{length, drop, set, length-append, length-set}
+use Rattle.std.proofs.lemmas.List.{drop-set}
+use native.Mathlib.Numerals.{add-one}
 use Rattle.commands.proofs.Tests.{both}
 use Rattle.commands.proofs.Order.{lt_or_ge}
 use Rattle.decimal.specs.Decimal.{digit, digits_within, digits, is_digit, all_digits}
@@ -79,6 +82,15 @@ digits_more_than =
 pub digits_count : (n k : ℕ) → 10 ^ k ≤ n → n < 10 ^ suc k → suc k ≡ length (digits n)
 digits_count n k h l = omega (arith, digits_more_than n k h, digits_at_most n k l)
 
+-- ten where it is of 32 bits
+pub ten_at_most : (n : ℕ) → n < 4294967296 → length (digits n) ≤ 10
+ten_at_most n h = digits_at_most n 9 (omega arith)
+
+-- as the library's logarithm tells them
+pub digits_log : (n : ℕ) (o : Option ℕ) → IfNone o (n ≡ 0) → IfSome o (λ k. 10 ^ k ≤ n) → IfSome o (λ k. n < 10 * 10 ^ k) → unwrap_or o 0 + 1 ≡ length (digits n)
+digits_log n None z a b = sym (ap length (digits_one n (omega (arith, z))))
+digits_log n (Some k) z a b = let e : k + 1 ≡ suc k = omega arith in e ∙ digits_count n k a (rw (pow_step 10 k) b)
+
 -- ---- each is a digit
 
 pub digit_range : (b : ℕ) → is_digit b ≡ true → (48 ≤ b) × (b ≤ 57)
@@ -101,3 +113,48 @@ digits_all =
     by_digits (λ n. all_digits (digits n) ≡ true)
     (λ n h. rw (digits_one n h) (one_digit n h))
     (λ n h p. rw (digits_more n h) (all_append (digits (n / 10)) _ p (one_digit (n % 10) (omega arith))))
+
+-- ---- put from the last to the first
+
+-- the digits of what is left come before place `to`, and what stands from there on makes all of them
+pub record Putting (n left to : ℕ) (out : List ℕ) : Type 0 where
+  pub count : 0 < to → length (digits left) ≡ to
+  pub room : to ≤ length out
+  pub joined : 0 < to → digits left ++ drop to out ≡ digits n
+  pub done : to ≡ 0 → out ≡ digits n
+
+pub put_turn : (n left k to : ℕ) (out : List ℕ) → k ≡ suc to → Putting n left k out → Putting n (left / 10) to (set out to (digit (left % 10)))
+put_turn n left k to out e q = ⊎_elim last other (lt_or_ge left 10)
+  where
+    p : Putting n left (suc to) out
+    p = subst (λ (k : ℕ). Putting n left k out) e q
+
+    -- the digit before those that stand there
+    here : (l : List ℕ) → digits left ≡ l ++ digit (left % 10) ∷ [] → l ++ drop to (set out to (digit (left % 10))) ≡ digits n
+    here l e =
+        let r : to < length out = omega (arith, p.room) in
+        rw (drop-set out to (digit (left % 10)) r, add-one to)
+        (sym (append_assoc l (digit (left % 10) ∷ []) (drop (suc to) out)) ∙ ap (λ (l : List ℕ). l ++ drop (suc to) out) (sym e) ∙ p.joined (omega arith))
+
+    last : left < 10 → Putting n (left / 10) to (set out to (digit (left % 10)))
+    last h =
+        let o = digits_one left h in
+        let z : to ≡ 0 = omega (arith, ap length o, p.count (omega arith)) in
+        let m : left % 10 ≡ left = omega arith in
+        record {
+          count = λ k. absurd (omega arith);
+          room = rw length-set (omega (arith, p.room));
+          joined = λ k. absurd (omega arith);
+          done = λ k. ap (λ (i : ℕ). drop i (set out to (digit (left % 10)))) (sym z) ∙ here [] (rw m o);
+        }
+
+    other : 10 ≤ left → Putting n (left / 10) to (set out to (digit (left % 10)))
+    other h =
+        let o = digits_more left h in
+        let k : length (digits (left / 10)) ≡ to = omega (arith, simp length-append at (ap length o), p.count (omega arith)) in
+        record {
+          count = λ _. k;
+          room = rw length-set (omega (arith, p.room));
+          joined = λ _. here (digits (left / 10)) o;
+          done = λ z. absurd (omega (arith, k, z, digits_some (left / 10)));
+        }

@@ -1,17 +1,23 @@
 -- Laws of a number in front of other bytes. Assumes nothing.
-use Prim.Native.Nat.{ℕ, ◌≤◌}
-use mathlib.Core.Bool.{Bool, true, false, cond}
+use Prim.Native.Nat.{ℕ, ◌+◌, ◌≤◌}
+use mathlib.Core.Bool.{Bool, true, false}
 use mathlib.Core.Path.{◌≡◌, refl, sym, ap, ◌∙◌}
 use mathlib.Core.List.{List, [], ◌∷◌, ◌++◌}
-use mathlib.Core.Option.{Option, none, some}
+use mathlib.Core.Option.{Option as Maybe, none, some}
+use Rattle.std.specs.Prelude.{Option, Some, None, position, unwrap_or, nat_lt, not, cond}
+use lib.Seq.{take_all}
+use Rattle.std.proofs.lemmas.Option.{none-some, same_Some}
+use native.Mathlib.Numerals.{one-add}
 use native.Mathlib.Omega.{arith}
-use borrow.Author.Tests.{le-leb, leb-true}
+use borrow.Author.Tests.{le-leb, leb-true, ltb-false}
 use lib.Dec.{leb}
-use lib.ListN.{length, drop, length-append}
+use Rattle.std.specs.List.{position_or_len}
+use Rattle.std.specs.Char.{is_ascii_digit}
+use lib.ListN.{length, take, drop, length-append}
 use Rattle.commands.proofs.Tests.{both}
 use Rattle.decimal.specs.declared.Number.{Number}
 use Rattle.decimal.specs.Decimal.{digits, is_digit, all_digits, number_in}
-use Rattle.decimal.specs.Front.{front, largest, no_number, as_number, number_in_front}
+use Rattle.decimal.specs.Front.{front, largest, as_number, number_in_front}
 use Rattle.decimal.proofs.Digits.{digits_all}
 use Rattle.decimal.proofs.Theorems.{reads_written, writes_read}
 
@@ -27,6 +33,25 @@ front_stops b s e = rw e
 pub front_goes : (b : ℕ) (s : List ℕ) → is_digit b ≡ true → front (b ∷ s) ≡ b ∷ front s
 unfolding front
 front_goes b s e = rw e
+
+-- up to the first byte that is no digit
+front_before : (s : List ℕ) → take (position_or_len (λ b. not (is_ascii_digit b)) s) s ≡ front s
+unfolding front
+front_before [] = refl
+front_before (b ∷ s) = by (is_digit b) (front_before s)
+  where
+    by : (t : Bool) → take (position_or_len (λ b. not (is_ascii_digit b)) s) s ≡ front s
+        → take (cond (not (not t)) (1 + position_or_len (λ b. not (is_ascii_digit b)) s) 0) (b ∷ s) ≡ cond t (b ∷ front s) []
+    by true h = rw (one-add) (ap (λ (l : List ℕ). b ∷ l) h)
+    by false h = refl
+
+pub front_is : (s : List ℕ) (o : Option ℕ) (n : ℕ) → o ≡ position (λ b. not (is_ascii_digit b)) s → n ≡ unwrap_or o (length s) → take n s ≡ front s
+front_is s o n e u = by (nat_lt (position_or_len (λ b. not (is_ascii_digit b)) s) (length s)) refl (u ∙ ap (λ (o : Option ℕ). unwrap_or o (length s)) e)
+  where
+    by : (t : Bool) → nat_lt (position_or_len (λ b. not (is_ascii_digit b)) s) (length s) ≡ t
+        → n ≡ unwrap_or (cond t (Some (position_or_len (λ b. not (is_ascii_digit b)) s)) None) (length s) → take n s ≡ front s
+    by true p e = rw e (front_before s)
+    by false p e = rw e (take_all (length s) s (omega arith) ∙ sym (take_all _ s (ltb-false _ _ p)) ∙ front_before s)
 
 front_all : (l rest : List ℕ) → all_digits l ≡ true → Stops rest → front (l ++ rest) ≡ l
 unfolding front all_digits
@@ -54,7 +79,7 @@ front_within s = omega (arith, simp length-append at (ap length (cut s).joined))
 
 -- ---- a number that was written, before what is no digit
 
-pub reads_in_front : (n : ℕ) (rest : List ℕ) → n ≤ largest → Stops rest → number_in_front (digits n ++ rest) ≡ record { value = n; size = length (digits n) }
+pub reads_in_front : (n : ℕ) (rest : List ℕ) → n ≤ largest → Stops rest → number_in_front (digits n ++ rest) ≡ Some (record { value = n; size = length (digits n) })
 unfolding number_in_front
 reads_in_front n rest h s = rw (front_all (digits n) rest (digits_all n) s, reads_written n, le-leb n largest h)
 
@@ -65,19 +90,16 @@ pub record InFront (s : List ℕ) (n : Number) : Type 0 where
   pub size : n.size ≡ length (digits n.value)
   pub joined : s ≡ digits n.value ++ drop n.size s
 
-not_none : (n : Number) → n ≡ no_number → 1 ≤ n.size → ⊥
-not_none n e h = omega (arith, ap (λ (n : Number). n.size) e)
-
-pub writes_in_front : (s : List ℕ) (n : Number) → number_in_front s ≡ n → 1 ≤ n.size → InFront s n
+pub writes_in_front : (s : List ℕ) (n : Number) → number_in_front s ≡ Some n → InFront s n
 unfolding number_in_front
-writes_in_front s n e h = by (number_in (front s)) refl e
+writes_in_front s n e = by (number_in (front s)) refl e
   where
-    fits : (v : ℕ) (b : Bool) → leb v largest ≡ b → number_in (front s) ≡ some v → cond b (record { value = v; size = length (front s) }) no_number ≡ n → InFront s n
+    fits : (v : ℕ) (b : Bool) → leb v largest ≡ b → number_in (front s) ≡ some v → cond b (Some (record { value = v; size = length (front s) })) None ≡ Some n → InFront s n
     fits v true l i e =
         let d = writes_read (front s) v i in
-        rw (sym e) (record { small = leb-true v largest l; size = ap length (sym d); joined = (cut s).joined ∙ ap (λ (t : List ℕ). t ++ drop (length (front s)) s) (sym d) })
-    fits v false l i e = absurd (not_none n (sym e) h)
+        rw (sym (same_Some _ _ e)) (record { small = leb-true v largest l; size = ap length (sym d); joined = (cut s).joined ∙ ap (λ (t : List ℕ). t ++ drop (length (front s)) s) (sym d) })
+    fits v false l i e = absurd (none-some n e)
 
-    by : (o : Option ℕ) → number_in (front s) ≡ o → as_number o (length (front s)) ≡ n → InFront s n
-    by none i e = absurd (not_none n (sym e) h)
+    by : (o : Maybe ℕ) → number_in (front s) ≡ o → as_number o (length (front s)) ≡ Some n → InFront s n
+    by none i e = absurd (none-some n e)
     by (some v) i e = fits v (leb v largest) refl i e

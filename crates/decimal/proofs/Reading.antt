@@ -1,112 +1,106 @@
--- Laws of reading a number in front byte by byte. Assumes nothing.
-use Prim.Native.Nat.{ℕ, suc, ◌+◌, ◌-◌, ◌*◌, ◌≤◌, ◌<◌}
-use mathlib.Core.Bool.{Bool, true, false, cond, not}
+-- Laws of reading a number in front. Assumes nothing.
+use Prim.Native.Nat.{ℕ, ◌+◌, ◌-◌, ◌*◌, ◌≤◌, ◌<◌}
+use mathlib.Core.Logic.{⊎_elim}
+use Rattle.std.proofs.lemmas.Option.{none-some, same_Some}
+use mathlib.Core.Bool.{Bool, true, false, cond}
 use mathlib.Core.Path.{◌≡◌, refl, sym, ap, ◌∙◌}
 use mathlib.Core.List.{List, [], ◌∷◌}
-use native.Mathlib.Numerals.{add-one}
 use native.Mathlib.Omega.{arith}
-use borrow.Author.Tests.{le-leb, lt-leb}
-use lib.Dec.{eqb}
-use lib.ListN.{length, drop, get_or, drop_of_length-le, get_or-append}
+use borrow.Author.Tests.{le-leb, lt-leb, eq-eqb, ne_eqb}
+use lib.Dec.{leb}
+use lib.ListN.{length, drop, get_or, drop_of_length-le}
 use lib.Seq.{drop-cons}
+use native.Mathlib.Numerals.{add-one}
+use Rattle.commands.proofs.Tests.{both}
+use Rattle.decimal.proofs.Digits.{digit_range}
+use Rattle.std.specs.Prelude.{Some, None, ◌⊎◌}
 use Rattle.decimal.specs.declared.Number.{Number}
-use Rattle.decimal.specs.Decimal.{is_digit, no_leading_zero, value_from, number_in}
-use Rattle.decimal.specs.Front.{front, largest, no_number, number_in_front}
+use Rattle.decimal.specs.Decimal.{is_digit, all_digits, no_leading_zero, value_from, number_in}
+use Rattle.decimal.specs.Front.{front, largest, small, number_in_front}
 use Rattle.decimal.proofs.Values.{value_grows}
-use Rattle.decimal.proofs.Front.{front_goes, front_stops, cut}
+use Rattle.decimal.proofs.Front.{cut}
 
--- ---- on to the next byte
+-- ---- digit by digit
 
-module _ (s : List ℕ) (i : ℕ) where
-  goes : i < length s → is_digit (get_or s i 0) ≡ true → front (drop i s) ≡ get_or s i 0 ∷ front (drop (i + 1) s)
-  goes h e = rw (drop-cons s i 0 h, add-one i) (front_goes (get_or s i 0) (drop (suc i) s) e)
+-- with i digits read, which stand for v, the rest of them makes the whole number
+pub record Reading (l : List ℕ) (v i : ℕ) : Type 0 where
+  pub digits : all_digits (drop i l) ≡ true
+  pub fits : v ≤ largest
+  pub value : value_from v (drop i l) ≡ value_from 0 l
 
-  pub stops : i < length s → is_digit (get_or s i 0) ≡ false → front (drop i s) ≡ []
-  stops h e = rw (drop-cons s i 0 h) (front_stops (get_or s i 0) (drop (suc i) s) e)
+too_large : (v : ℕ) (l : List ℕ) → largest < v → None ≡ small (value_from v l)
+unfolding small
+too_large v l h = rw (lt-leb (value_from v l) largest (omega (arith, value_grows l v)))
 
-  pub ends : length s ≤ i → front (drop i s) ≡ []
-  unfolding front
-  ends h = rw (drop_of_length-le s h)
+module _ (l : List ℕ) (v i : ℕ) (r : Reading l v i) where
+  pub all_read : length l ≤ i → Some v ≡ small (value_from 0 l)
+  unfolding small value_from
+  all_read e =
+      let w : v ≡ value_from 0 l = rw (drop_of_length-le l e) at r.value in rw (sym w, le-leb v largest r.fits)
 
--- ---- the digits in front, by how many there are
+  module _ (h : i < length l) where
+    here : drop i l ≡ get_or l i 0 ∷ drop (i + 1) l
+    here = rw (add-one i) (drop-cons l i 0 h)
 
-none_no_number : (l : List ℕ) → length l ≡ 0 → no_leading_zero l ≡ false
-none_no_number [] h = refl
-none_no_number (b ∷ l) h = absurd (omega arith)
+    parts : (is_digit (get_or l i 0) ≡ true) × (all_digits (drop (i + 1) l) ≡ true)
+    unfolding all_digits
+    parts = both (is_digit (get_or l i 0)) (all_digits (drop (i + 1) l)) (sym (ap all_digits here) ∙ r.digits)
 
-one_is_number : (l : List ℕ) → length l ≡ 1 → no_leading_zero l ≡ true
-one_is_number [] h = absurd (omega arith)
-one_is_number (b ∷ []) h = refl
-one_is_number (b ∷ c ∷ l) h = absurd (omega arith)
+    pub digit : (48 ≤ get_or l i 0) × (get_or l i 0 ≤ 57)
+    digit = digit_range _ parts.0
 
-more_by_first : (l : List ℕ) → 1 < length l → no_leading_zero l ≡ not (eqb (get_or l 0 0) 48)
-more_by_first [] h = absurd (omega arith)
-more_by_first (b ∷ []) h = absurd (omega arith)
-more_by_first (b ∷ c ∷ l) h = refl
+    on : value_from (v * 10 + (get_or l i 0 - 48)) (drop (i + 1) l) ≡ value_from 0 l
+    unfolding value_from
+    on = sym (ap (value_from v) here) ∙ r.value
 
--- ---- the ways out
+    pub turn : (w : ℕ) → w ≡ v * 10 + (get_or l i 0 - 48) → w ≤ largest → Reading l w (i + 1)
+    turn w e k = record { digits = parts.1; fits = k; value = ap (λ (n : ℕ). value_from n (drop (i + 1) l)) e ∙ on }
+
+    pub over : largest < v * 10 + (get_or l i 0 - 48) → None ≡ small (value_from 0 l)
+    over g = too_large _ (drop (i + 1) l) g ∙ ap small on
+
+-- ---- the digits in front
 
 abbrev number : ℕ → ℕ → Number
 number value size = record { value = value; size = size }
 
-module _ (s : List ℕ) where
-  first : 0 < length (front s) → get_or (front s) 0 0 ≡ get_or s 0 0
-  first h = sym (ap (λ (l : List ℕ). get_or l 0 0) (cut s).joined ∙ get_or-append (front s) _ 0 0 h)
+module _ (s l : List ℕ) (e : l ≡ front s) where
+  pub all_front : all_digits l ≡ true
+  all_front = rw e (cut s).all
 
-  too_large : (v : ℕ) (l : List ℕ) → value_from v l ≡ value_from 0 (front s) → largest < v → no_number ≡ number_in_front s
+  -- none, or a 0 before others
+  pub refused : (length l ≡ 0) ⊎ ((1 < length l) × (get_or l 0 0 ≡ 48)) → None ≡ number_in_front s
   unfolding number_in_front number_in
-  too_large v l e h = by (no_leading_zero (front s)) refl
+  refused h = rw (sym e, all_front, bad l h)
     where
-      by : (b : Bool) → no_leading_zero (front s) ≡ b → no_number ≡ number_in_front s
-      by true n = let g : largest < value_from 0 (front s) = omega (arith, value_grows l v) in rw ((cut s).all, n, lt-leb _ largest g)
-      by false n = rw ((cut s).all, n)
+      bad : (l : List ℕ) → (length l ≡ 0) ⊎ ((1 < length l) × (get_or l 0 0 ≡ 48)) → no_leading_zero l ≡ false
+      bad [] h = refl
+      bad (b ∷ []) h = absurd (⊎_elim (λ z. omega (arith, z)) (λ k. omega (arith, k.0)) h)
+      bad (b ∷ c ∷ l) h = ⊎_elim (λ z. absurd (omega (arith, z))) (λ k. rw (eq-eqb b 48 k.1)) h
 
-  module _ (size value : ℕ) (u : size ≡ length (front s)) (v : value ≡ value_from 0 (front s)) (h : value ≤ largest) where
-    by_first : (b : Bool) → no_leading_zero (front s) ≡ b → cond b (number value size) no_number ≡ number_in_front s
-    unfolding number_in_front number_in
-    by_first true e = rw ((cut s).all, e, u, v, le-leb (value_from 0 (front s)) largest (rw v at h))
-    by_first false e = rw ((cut s).all, e)
+  -- else what they stand for, where it is small enough
+  abbrev pub Good : Type 0
+  Good = (length l ≡ 1) ⊎ ((1 < length l) × (get_or l 0 0 ≡ 48 → ⊥))
 
-    pub none : size ≡ 0 → no_number ≡ number_in_front s
-    none e = by_first false (none_no_number (front s) (sym u ∙ e))
+  good : (l : List ℕ) → (length l ≡ 1) ⊎ ((1 < length l) × (get_or l 0 0 ≡ 48 → ⊥)) → no_leading_zero l ≡ true
+  good [] h = absurd (⊎_elim (λ z. omega (arith, z)) (λ k. omega (arith, k.0)) h)
+  good (b ∷ []) h = refl
+  good (b ∷ c ∷ l) h = ⊎_elim (λ z. absurd (omega (arith, z))) (λ k. rw (ne_eqb b 48 k.1)) h
 
-    pub single : size ≡ 1 → number value size ≡ number_in_front s
-    single e = by_first true (one_is_number (front s) (sym u ∙ e))
+  pub given : Good → (v : ℕ) → Some v ≡ small (value_from 0 l) → Some (number v (length l)) ≡ number_in_front s
+  unfolding number_in_front number_in small
+  given h v q = rw (sym e, all_front, good l h) (by (leb (value_from 0 l) largest) refl q)
+    where
+      by : (t : Bool) → leb (value_from 0 l) largest ≡ t → Some v ≡ cond t (Some (value_from 0 l)) None
+          → Some (number v (length l)) ≡ cond t (Some (number (value_from 0 l) (length l))) None
+      by true t q = rw (same_Some _ _ q)
+      by false t q = absurd (none-some v (sym q))
 
-    pub several : (b : Bool) → (size ≡ 0 → ⊥) → (size ≡ 1 → ⊥) → eqb (get_or s 0 0) 48 ≡ b → cond (not b) (number value size) no_number ≡ number_in_front s
-    several b z o e =
-        let l : 1 < length (front s) = more size z o u in
-        by_first (not b) (more_by_first (front s) l ∙ rw (first (omega arith), e))
-      where
-        more : (n : ℕ) → (n ≡ 0 → ⊥) → (n ≡ 1 → ⊥) → n ≡ length (front s) → 1 < length (front s)
-        more n z o u = omega arith
-
--- ---- the loop
-
--- with i bytes read, which stand for v, the rest of the digits makes the whole number
-pub record Reading (s : List ℕ) (v i : ℕ) : Type 0 where
-  pub within : i ≤ length s
-  pub small : v ≤ largest
-  pub count : i + length (front (drop i s)) ≡ length (front s)
-  pub value : value_from v (front (drop i s)) ≡ value_from 0 (front s)
-
-pub begun : (s : List ℕ) → Reading s 0 0
-begun s = record { within = omega arith; small = omega arith; count = omega arith; value = refl }
-
-module _ (s : List ℕ) (v i : ℕ) (r : Reading s v i) where
-  module _ (h : i < length s) (e : is_digit (get_or s i 0) ≡ true) where
-    on : value_from (v * 10 + (get_or s i 0 - 48)) (front (drop (i + 1) s)) ≡ value_from 0 (front s)
-    unfolding value_from
-    on = let w = r.value in rw (goes s i h e) at w
-
-    pub turn : v * 10 + (get_or s i 0 - 48) ≤ largest → Reading s (v * 10 + (get_or s i 0 - 48)) (i + 1)
-    turn l =
-        let n : length (front (drop i s)) ≡ suc (length (front (drop (i + 1) s))) = ap length (goes s i h e) in
-        record { within = omega arith; small = l; count = omega (arith, r.count); value = on }
-
-    pub over : largest < v * 10 + (get_or s i 0 - 48) → no_number ≡ number_in_front s
-    over l = too_large s _ _ on l
-
-  pub read_all : front (drop i s) ≡ [] → (i ≡ length (front s)) × (v ≡ value_from 0 (front s)) × (v ≤ largest)
-  unfolding value_from
-  read_all e = let n = r.count in let w = r.value in (omega (arith, rw e at n), rw e at w, r.small)
+  pub too_great : Good → None ≡ small (value_from 0 l) → None ≡ number_in_front s
+  unfolding number_in_front number_in small
+  too_great h q = rw (sym e, all_front, good l h) (by (leb (value_from 0 l) largest) refl q)
+    where
+      by : (t : Bool) → leb (value_from 0 l) largest ≡ t → None ≡ cond t (Some (value_from 0 l)) None
+          → None ≡ cond t (Some (number (value_from 0 l) (length l))) None
+      by true t q = absurd (none-some _ q)
+      by false t q = refl

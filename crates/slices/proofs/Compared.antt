@@ -1,14 +1,13 @@
 -- Laws of bytes compared. Assumes nothing.
-use Prim.Native.Nat.{ℕ, ◌+◌, ◌≤◌, ◌<◌}
-use mathlib.Core.Bool.{true, false, ◌&&◌, false≢true, and-false}
-use mathlib.Core.Path.{◌≡◌, refl, ap, ap₂}
+use Prim.Native.Nat.{ℕ}
+use Rattle.std.specs.List.{starts_with}
+use mathlib.Core.Bool.{Bool, true, false, ◌&&◌, false≢true}
+use mathlib.Core.Path.{◌≡◌, refl, sym, ap, ap₂, ◌∙◌}
 use mathlib.Core.List.{List, [], ◌∷◌, ◌++◌}
-use native.Mathlib.Numerals.{add-one}
-use native.Mathlib.Omega.{arith}
-use borrow.Author.Tests.{eq-eqb, eqb-true}
+use borrow.Author.Tests.{eq-eqb, ne_eqb, eqb-true}
 use lib.Dec.{eqb}
-use lib.ListN.{length, drop, get_or, drop_of_length-le}
-use lib.Seq.{drop-cons}
+use Rattle.std.proofs.lemmas.Bool.{eqb-false}
+use lib.ListN.{length, drop}
 use Rattle.commands.proofs.Tests.{both}
 use Rattle.slices.specs.Starts.{same, starts}
 
@@ -41,19 +40,16 @@ front_starts (b ∷ t) [] e = absurd (false≢true e)
 front_starts (b ∷ t) (x ∷ s) e =
     let p = both (eqb x b) (starts t s) e in rw (eqb-true x b p.0) (ap (λ (l : List ℕ). b ∷ l) (front_starts t s p.1))
 
--- ---- byte by byte
+-- as the library says it
+either_way : (a b : ℕ) → eqb a b ≡ eqb b a
+either_way a b = by (eqb b a) refl
+  where
+    by : (t : Bool) → eqb b a ≡ t → eqb a b ≡ eqb b a
+    by true e = rw (eqb-true b a e, eq-eqb a a refl)
+    by false e = ne_eqb a b (λ q. eqb-false b a e (sym q)) ∙ sym e
 
-pub starts_short : (t s : List ℕ) → length s < length t → starts t s ≡ false
+pub starts_as : (t s : List ℕ) → starts_with eqb s t ≡ starts t s
 unfolding starts
-starts_short [] s h = absurd (omega arith)
-starts_short (b ∷ t) [] h = refl
-starts_short (b ∷ t) (x ∷ s) h = rw (starts_short t s (omega arith)) (and-false (eqb x b))
-
-pub starts_on : (t s : List ℕ) (i : ℕ) → i < length t → i < length s
-    → starts (drop i t) (drop i s) ≡ eqb (get_or s i 0) (get_or t i 0) && starts (drop (i + 1) t) (drop (i + 1) s)
-unfolding starts
-starts_on t s i h g = rw (add-one i, drop-cons t i 0 h, drop-cons s i 0 g)
-
-pub starts_end : (t s : List ℕ) (i : ℕ) → length t ≤ i → starts (drop i t) s ≡ true
-unfolding starts
-starts_end t s i h = rw (drop_of_length-le t h)
+starts_as [] s = refl
+starts_as (b ∷ t) [] = refl
+starts_as (b ∷ t) (x ∷ s) = ap₂ (λ (p q : Bool). p && q) (either_way b x) (starts_as t s)

@@ -1,9 +1,10 @@
 -- The laws of bytes put to the start of an output. Assumes nothing.
 use mathlib.Core.Path.{◌≡◌, refl, sym, ap, ◌∙◌}
-use mathlib.Core.Bool.{Bool, true, false, cond}
-use mathlib.Core.Logic.{◌⊎◌, inl, inr, ⊎_elim}
+use mathlib.Core.Bool.{Bool, true, false}
+use mathlib.Core.Logic.{◌⊎◌, ⊎_elim}
 use mathlib.Core.List.{List, [], ◌∷◌, ◌++◌, append-nil}
-use Prim.Native.Nat.{ℕ, suc, ◌+◌, ◌≤◌, ◌<◌}
+use Prim.Native.Nat.{ℕ, suc, ◌+◌, ◌≤◌, ◌<◌, min}
+use Rattle.std.proofs.lemmas.Bool.{cases_lt}
 use native.Mathlib.Numerals.{add-one}
 use native.Mathlib.Omega.{arith}
 use borrow.Author.Tests.{ltb-true, ltb-false}
@@ -16,18 +17,19 @@ pub overlay_fits : (bytes out : List ℕ) → length bytes ≤ length out → ov
 unfolding overlay
 overlay_fits bytes out h = rw (take_all (length out) bytes h)
 
--- ---- as many as there are bytes and room
-pub record Least (a b n : ℕ) : Type 0 where
-  pub bytes : n ≤ a
-  pub room : n ≤ b
-  pub all : (a ≤ n) ⊎ (b ≤ n)
-
-pub least_within : (a b n : ℕ) → n ≡ cond (ltb a b) a b → Least a b n
-least_within a b n e = by (ltb a b) refl e
+-- as many as there are bytes and room
+pub overlay_least : (bytes out : List ℕ) → take (min (length bytes) (length out)) bytes ++ drop (min (length bytes) (length out)) out ≡ overlay bytes out
+unfolding overlay
+overlay_least bytes out = ⊎_elim less more (cases_lt (length bytes) (length out))
   where
-    by : (t : Bool) → ltb a b ≡ t → n ≡ cond t a b → Least a b n
-    by true p q = record { bytes = omega arith; room = omega (arith, ltb-true a b p); all = inl (omega arith) }
-    by false p q = record { bytes = omega (arith, ltb-false a b p); room = omega arith; all = inr (omega arith) }
+    ends : (i : ℕ) → length out ≤ i → drop i out ≡ []
+    ends i h = drop_of_length-le out h
+
+    less : length bytes < length out → take (min (length bytes) (length out)) bytes ++ drop (min (length bytes) (length out)) out ≡ take (length out) bytes ++ drop (length bytes) out
+    less h = let e : min (length bytes) (length out) ≡ length bytes = omega arith in rw (e, take_all (length bytes) bytes (omega arith), take_all (length out) bytes (omega arith))
+
+    more : length out ≤ length bytes → take (min (length bytes) (length out)) bytes ++ drop (min (length bytes) (length out)) out ≡ take (length out) bytes ++ drop (length bytes) out
+    more h = let e : min (length bytes) (length out) ≡ length out = omega arith in rw (e, ends (length out) (omega arith), ends (length bytes) h)
 
 -- ---- an output of which a part is put: out as it stands up to place to, and bytes from there on
 abbrev pub from : ℕ → List ℕ → List ℕ → List ℕ

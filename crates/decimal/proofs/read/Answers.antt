@@ -1,40 +1,28 @@
--- `decimal::read` meets its contract. The loop's invariant: the rest of the digits makes the whole number. Assumes nothing.
-use mathlib.Core.Path.{sym, ◌∙◌}
-use native.Mathlib.Omega.{arith}
-use lib.ListN.{get_or}
-use Rattle.decimal.proofs.Digits.{digit_range}
-use Rattle.decimal.proofs.Reading.{begun, turn, over, read_all, stops, ends}
+-- `decimal::read` meets its contract. Assumes nothing.
+use Rattle.std.proofs.Common.{inl, inr, arith, ◌∙◌}
+use Rattle.std.proofs.lemmas.Bool.Decides.{nat_tests}
+use Rattle.decimal.proofs.Reading.{all_front, refused, given, too_great}
 use Rattle.decimal.proofs.read.Goals as goal
+use Rattle.decimal.proofs.read.Goals.{in_default-via-then-digits-lt2, in_default-via-else-digits-lt2+in_default-1}
 
-pub loop-i-init : goal.loop-i-init
-loop-i-init c = begun _
+pub value-requires : goal.value-requires
+value-requires c = all_front c.args.s.now _ c.digits_in_front-digits.ensures
 
-pub overflow_sub-value : goal.overflow_sub-value
-overflow_sub-value c = omega (arith, digit_range (get_or c.args.s.now c.loop-i.i 0) (sym c.is_digit.ensures ∙ c.if-is_digit.true))
+pub returns-in_err-value-in_default : goal.returns-in_err-value-in_default
+returns-in_err-value-in_default c =
+    c.from_residual.ensures
+    ∙ too_great c.args.s.now _ c.digits_in_front-digits.ensures
+    (elim c.in_default.branch [ in_default-via-then-digits-lt2 w ↦ inl (grind (arith, nat_tests)) | in_default-via-else-digits-lt2+in_default-1 w ↦ inr (grind (arith, nat_tests), λ e. grind (arith, nat_tests)) ])
+    c.in_err-value-in_default.ensures
 
-pub overflow_cast-value : goal.overflow_cast-value
-overflow_cast-value c = omega (arith, digit_range (get_or c.args.s.now c.loop-i.i 0) (sym c.is_digit.ensures ∙ c.if-is_digit.true))
+pub returns-in_ok-value-in_default : goal.returns-in_ok-value-in_default
+returns-in_ok-value-in_default c =
+    given c.args.s.now _ c.digits_in_front-digits.ensures
+    (elim c.in_default.branch [ in_default-via-then-digits-lt2 w ↦ inl (grind (arith, nat_tests)) | in_default-via-else-digits-lt2+in_default-1 w ↦ inr (grind (arith, nat_tests), λ e. grind (arith, nat_tests)) ])
+    _ c.in_ok-value-in_default.ensures
 
-pub overflow_add-value : goal.overflow_add-value
-overflow_add-value c = omega (arith, digit_range (get_or c.args.s.now c.loop-i.i 0) (sym c.is_digit.ensures ∙ c.if-is_digit.true))
+pub returns-in-empty : goal.returns-in-empty
+returns-in-empty c = refused c.args.s.now _ c.digits_in_front-digits.ensures (inl (omega arith))
 
-pub returns-then-value-gt-LARGEST : goal.returns-then-value-gt-LARGEST
-returns-then-value-gt-LARGEST c =
-    over _ _ _ c.loop-i.invariant c.loop-i-test.true (sym c.is_digit.ensures ∙ c.if-is_digit.true) c.if-value-gt-LARGEST.true
-
-pub loop-i-preserved : goal.loop-i-preserved
-loop-i-preserved c =
-    turn _ _ _ c.loop-i.invariant c.loop-i-test.true (sym c.is_digit.ensures ∙ c.if-is_digit.true) c.if-value-gt-LARGEST.false
-
-pub number_of-requires : goal.number_of-requires
-number_of-requires c =
-    read_all _ _ _ c.loop-i.invariant (stops _ _ c.loop-i-test.true (sym c.is_digit.ensures ∙ c.if-is_digit.false))
-
-pub returns-else-is_digit : goal.returns-else-is_digit
-returns-else-is_digit c = c.number_of.ensures
-
-pub number_of-requires-2 : goal.number_of-requires-2
-number_of-requires-2 c = read_all _ _ _ c.loop-i.invariant (ends _ _ c.loop-i-test.false)
-
-pub returns : goal.returns
-returns c = c.number_of-2.ensures
+pub returns-in-empty-2 : goal.returns-in-empty-2
+returns-in-empty-2 c = refused c.args.s.now _ c.digits_in_front-digits.ensures (inr (omega arith, grind (arith, nat_tests)))

@@ -1,9 +1,0 @@
--- `slices::least` meets its contract. Assumes nothing.
-use borrow.Author.Tests.{lt-ltb, le-ltb}
-use Rattle.slices.proofs.least.Goals as goal
-
-pub returns-then-a-b : goal.returns-then-a-b
-returns-then-a-b c = rw (lt-ltb c.args.a c.args.b c.if-a-b.true)
-
-pub returns : goal.returns
-returns c = rw (le-ltb c.args.a c.args.b c.if-a-b.false)
