@@ -1,5 +1,6 @@
 -- Laws of bytes compared. Assumes nothing.
 use Prim.Native.Nat.{ℕ}
+use Rattle.std.specs.Cmp.Lexicographic.{pointwise}
 use Rattle.std.specs.List.{starts_with}
 use mathlib.Core.Bool.{Bool, true, false, ◌&&◌, false≢true}
 use mathlib.Core.Path.{◌≡◌, refl, sym, ap, ap₂, ◌∙◌}
@@ -7,7 +8,7 @@ use mathlib.Core.List.{List, [], ◌∷◌, ◌++◌}
 use borrow.Author.Tests.{eq-eqb, ne_eqb, eqb-true}
 use lib.Dec.{eqb}
 use Rattle.std.proofs.lemmas.Bool.{eqb-false}
-use lib.ListN.{length, drop}
+use lib.ListN.{length, take, drop}
 use Rattle.commands.proofs.Tests.{both}
 use Rattle.slices.specs.Starts.{same, starts}
 
@@ -53,3 +54,9 @@ unfolding starts
 starts_as [] s = refl
 starts_as (b ∷ t) [] = refl
 starts_as (b ∷ t) (x ∷ s) = ap₂ (λ (p q : Bool). p && q) (either_way b x) (starts_as t s)
+
+pub strips_as : (t s : List ℕ) → pointwise eqb (take (length t) s) t ≡ starts t s
+unfolding starts
+strips_as [] s = refl
+strips_as (b ∷ t) [] = refl
+strips_as (b ∷ t) (x ∷ s) = ap (λ (q : Bool). eqb x b && q) (strips_as t s)
