@@ -1,7 +1,7 @@
 -- The laws of bytes put to the start of an output. Assumes nothing.
-use mathlib.Core.Path.{◌≡◌, refl, sym, ap, ◌∙◌}
+use mathlib.Core.Path.{◌≡◌, refl, sym, ◌∙◌}
 use mathlib.Core.Bool.{Bool, true, false}
-use mathlib.Core.Logic.{◌⊎◌, ⊎_elim}
+use mathlib.Core.Logic.{⊎_elim}
 use mathlib.Core.List.{List, [], ◌∷◌, ◌++◌, append-nil}
 use Prim.Native.Nat.{ℕ, suc, ◌+◌, ◌≤◌, ◌<◌, min}
 use Rattle.std.proofs.lemmas.Bool.{cases_lt}
@@ -43,10 +43,6 @@ from_end to out = rw take-nil (take-append-drop to out)
 from_full : (to : ℕ) (bytes out : List ℕ) → length out ≤ to → from to bytes out ≡ out
 unfolding overlay
 from_full to bytes out h = rw (drop_of_length-le out h, drop-nil, take_all to out h) (append-nil out)
-
--- as many were put as there are bytes or room
-pub from_past : (to : ℕ) (bytes out : List ℕ) → (length bytes ≤ to) ⊎ (length out ≤ to) → from to (drop to bytes) out ≡ out
-from_past to bytes out h = ⊎_elim (λ k. ap (λ (l : List ℕ). from to l out) (drop_of_length-le bytes k) ∙ from_end to out) (from_full to (drop to bytes) out) h
 
 -- a byte more
 pub from_on : (to v : ℕ) (bytes out : List ℕ) → from (to + 1) bytes (set out to v) ≡ from to (v ∷ bytes) out
