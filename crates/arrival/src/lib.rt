@@ -13,7 +13,7 @@ ghost use Rattle.effects.specs.Deciding.{Whole};
 
 use commands::idents::Ident;
 use commands::refusals::Refusal;
-use commands::{answers, idents, sizes};
+use commands::{answers, sizes};
 use decided::Decided;
 use outcome::Stepped;
 use partial::PartialFrame;
@@ -93,7 +93,7 @@ fn alone(b: &Box) -> Stepped
     };
     settle(
         b,
-        decided::tell(b.clock, idents::UPDATE, Err(refusal), b.core),
+        decided::tell(b.clock, Ident::Update, Err(refusal), b.core),
     )
 }
 

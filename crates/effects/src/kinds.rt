@@ -7,7 +7,8 @@ ghost use Rattle.decided.specs.ByValue.{by_value};
 ghost use Rattle.effects.specs.Deciding.{late};
 
 use super::{cores, single};
-use commands::{Init, Setting, Single, idents};
+use commands::idents::Ident;
+use commands::{Init, Setting, Single};
 use decided::Decided;
 use record::Box;
 
@@ -15,8 +16,8 @@ pub fn on_init(b: &Box, v: Init) -> Decided
     ensures { result ≡ by_value (late b.now.profile b.now.clock b.now.core (init v)) }
 {
     match judgement::judge_init(b.profile, v) {
-        Ok(()) => decided::tell(b.clock, idents::INIT, Ok(()), cores::running(v)),
-        Err(refusal) => decided::drop_frame(b.clock, idents::INIT, refusal, &b.core),
+        Ok(()) => decided::tell(b.clock, Ident::Init, Ok(()), cores::running(v)),
+        Err(refusal) => decided::drop_frame(b.clock, Ident::Init, refusal, &b.core),
     }
 }
 
@@ -27,11 +28,11 @@ pub fn on_update(b: &Box, entries: [Setting; 8]) -> Decided
     match judgement::judge_update(b.profile, b.core, settings) {
         Ok(()) => decided::tell(
             b.clock,
-            idents::UPDATE,
+            Ident::Update,
             Ok(()),
             cores::wait(&b.core, settings),
         ),
-        Err(refusal) => decided::drop_frame(b.clock, idents::UPDATE, refusal, &b.core),
+        Err(refusal) => decided::drop_frame(b.clock, Ident::Update, refusal, &b.core),
     }
 }
 
@@ -43,7 +44,7 @@ fn accept_single(b: &Box, v: Single) -> Decided
     if schedule::is_felt(v.width, v.current) {
         return single::tell_pulse(b.clock, held, v);
     }
-    decided::tell(b.clock, idents::SINGLE, Ok(()), held)
+    decided::tell(b.clock, Ident::Single, Ok(()), held)
 }
 
 pub fn on_single(b: &Box, v: Single) -> Decided
@@ -52,6 +53,6 @@ pub fn on_single(b: &Box, v: Single) -> Decided
 {
     match judgement::judge_single(b.profile, b.core, v) {
         Ok(()) => accept_single(b, v),
-        Err(refusal) => decided::drop_frame(b.clock, idents::SINGLE, refusal, &b.core),
+        Err(refusal) => decided::drop_frame(b.clock, Ident::Single, refusal, &b.core),
     }
 }

@@ -17,7 +17,7 @@ pub fn byte(b: &Box, buf: &mut [u8], at: Part, n: u8) -> Called
     ensures { (result ≡ (call_of b.now buf.old at (byte n)).called) × (buf.new ≡ (call_of b.now buf.old at (byte n)).buf) }
 {
     let ready = ring::ready(buf, at, b.ring);
-    filing::finish(buf, at, arrival::take_byte(b, ready, n))
+    filing::finish(buf, at, &arrival::take_byte(b, ready, n))
 }
 
 // One tick: 12, 13, 14, 15, else the machine's step, its records into the ring.
@@ -25,7 +25,7 @@ pub fn tick(b: &Box, buf: &mut [u8], at: Part) -> Called
     ensures { (result ≡ (call_of b.now buf.old at tick).called) × (buf.new ≡ (call_of b.now buf.old at tick).buf) }
 {
     let ready = ring::ready(buf, at, b.ring);
-    filing::finish(buf, at, ticks::take_tick(b, ready))
+    filing::finish(buf, at, &ticks::take_tick(b, ready))
 }
 
 // The trace: 12, 13, 14, 16, else the tail copied to the front of out, oldest first.
