@@ -1,16 +1,17 @@
--- The entries of an Update are good if each of them is, by its place. Assumes nothing.
-use Prim.Native.Nat.{ℕ, zero, suc, ◌-◌}
+-- The entries of an Update are good if each of them is, by its place, and zeros behind them add nothing. Assumes nothing.
+use Prim.Native.Nat.{ℕ, zero, suc, ◌+◌, ◌-◌}
 use mathlib.Core.Bool.{Bool, true, false}
-use mathlib.Core.Path.{◌≡◌, refl, sym, ◌∙◌}
-use mathlib.Core.List.{List, [], ◌∷◌}
+use mathlib.Core.Path.{◌≡◌, refl, sym, ap, ◌∙◌}
+use mathlib.Core.List.{List, [], ◌∷◌, ◌++◌}
 use native.Mathlib.Omega.{arith}
 use native.Mathlib.Numerals.{sub-one}
+use native.Mathlib.Nat.{zero-add}
 use lib.Dec.{ltb, leb-suc-suc}
-use lib.ListN.{get_or}
+use lib.ListN.{get_or, replicate}
 use borrow.Author.Tests.{le-ltb}
 use Rattle.std.specs.Prelude.{◌↔◌, IsTrue, EachIndex}
 use Rattle.commands.specs.declared.Setting.{Setting}
-use Rattle.commands.specs.Commands.{no_setting, good_entry, good_entries}
+use Rattle.commands.specs.Commands.{setting_sum, sum_all, no_setting, good_entry, good_entries}
 use Rattle.commands.proofs.Tests.{both}
 
 -- behind the first entry one listed channel less is left
@@ -44,3 +45,10 @@ all_good entries count t h = same t (good_entries entries count) (λ e. each_goo
     same true b f g = sym (f refl)
     same false true f g = g refl
     same false false f g = refl
+
+-- zeros past them add nothing
+pub sum_zeros : (vs : List Setting) (k : ℕ) → sum_all (vs ++ replicate k no_setting) ≡ sum_all vs
+unfolding sum_all
+sum_zeros [] zero = refl
+sum_zeros [] (suc k) = zero-add _ ∙ sum_zeros [] k
+sum_zeros (v ∷ vs) k = ap (λ (n : ℕ). setting_sum v + n) (sum_zeros vs k)

@@ -1,7 +1,7 @@
 -- Good values have room in their fields, and good entries are the listed ones and then zeros. Assumes nothing.
-use Prim.Native.Nat.{ℕ, zero, suc, ◌-◌, ◌^◌, ◌≤◌, ◌<◌}
+use Prim.Native.Nat.{ℕ, zero, suc, ◌-◌, ◌%◌, ◌^◌, ◌≤◌, ◌<◌}
 use mathlib.Core.Bool.{Bool, true, false, not, ◌&&◌, ◌||◌}
-use mathlib.Core.Path.{◌≡◌, refl, ap, ap₂}
+use mathlib.Core.Path.{◌≡◌, refl, sym, ap, ap₂, ◌∙◌}
 use mathlib.Core.List.{List, [], ◌∷◌, ◌++◌}
 use native.Mathlib.Omega.{arith}
 use native.Mathlib.Numerals.{sub-one}
@@ -13,8 +13,9 @@ use Rattle.commands.specs.declared.Init.{Init}
 use Rattle.commands.specs.declared.Setting.{Setting}
 use Rattle.commands.specs.declared.Single.{Single}
 use Rattle.commands.specs.Ranges.{within, good_pulse, good_count}
-use Rattle.commands.specs.Commands.{Command.update, no_setting, setting_sum, good_init, good_setting, good_entry, good_entries, good_single, good}
+use Rattle.commands.specs.Commands.{Command.update, no_setting, setting_sum, sum_all, check_of, good_init, good_setting, good_entry, good_entries, good_single, good}
 use Rattle.commands.proofs.Tests.{both}
+use Rattle.commands.proofs.Entries.{sum_zeros}
 
 -- an Init but for its two channel sets, which are bytes
 pub record InitFits (v : Init) : Type 0 where
@@ -115,3 +116,9 @@ then_zeros (v ∷ vs) (suc count) e h =
     let p = both (good_entry v (ltb 0 (suc count))) (good_entries vs (suc count - 1)) e in
     let on : good_entries vs count ≡ true = simp sub-one at p.1 in
     rw suc-sub-suc (ap (λ (xs : List Setting). v ∷ xs) (then_zeros vs count on (omega arith)))
+
+-- so that those past the count add nothing to the Check
+pub check_listed : (count : ℕ) (entries : List Setting) → good_entries entries count ≡ true → count ≤ length entries
+    → check_of (update count (take count entries)) ≡ check_of (update count entries)
+check_listed count entries e h =
+    ap (λ (n : ℕ). n % 32) (sym (sum_zeros (take count entries) (length entries - count)) ∙ ap sum_all (then_zeros entries count e h))

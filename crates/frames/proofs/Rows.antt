@@ -1,15 +1,16 @@
 -- Laws of the rows of an Update that are read: how many, the zeros past them, a turn of the loop over them, and its end. Assumes nothing.
-use Prim.Native.Nat.{ℕ, zero, suc, ◌+◌, ◌-◌, ◌*◌, ◌≤◌, ◌<◌}
-use mathlib.Core.Path.{◌≡◌, refl, ap}
+use Prim.Native.Nat.{ℕ, zero, suc, ◌+◌, ◌-◌, ◌*◌, ◌≤◌, ◌<◌, ◌%◌}
+use mathlib.Core.Path.{◌≡◌, refl, ap, sym}
 use mathlib.Core.List.{List, ◌++◌}
 use Rattle.std.proofs.lemmas.List.{append-nil}
 use native.Mathlib.Omega.{arith}
 use native.Mathlib.Numerals.{add-one}
 use native.Mathlib.Nat.{zero-add, sub-zero, zero-sub, suc-sub-suc}
 use lib.ListN.{length, set, take, drop, replicate, drop_of_length-le}
+use Rattle.commands.proofs.Entries.{sum_zeros}
 use lib.Seq.{take_at, sets, sets-eq}
 use Rattle.commands.specs.declared.Setting.{Setting}
-use Rattle.commands.specs.Commands.{no_setting}
+use Rattle.commands.specs.Commands.{no_setting, Command.update, check_of}
 use Rattle.frames.specs.Layout.{setting_in, settings_in, entries_in}
 
 -- so many settings as are asked for
@@ -22,6 +23,12 @@ length_settings_in s at (suc count) = ap suc (length_settings_in s (at + 3) coun
 pub listed_in : (s : List ℕ) (count : ℕ) → take count (entries_in s count) ≡ settings_in s 1 count
 unfolding entries_in
 listed_in s count = take_at (settings_in s 1 count) _ count (length_settings_in s 1 count)
+
+-- past them are zeros, which add nothing
+module _ (s : List ℕ) (count : ℕ) where
+  pub check_listed_in : check_of (update count (take count (entries_in s count))) ≡ check_of (update count (entries_in s count))
+  unfolding entries_in
+  check_listed_in = ap (λ (n : ℕ). n % 32) (rw (listed_in s count) (sym (sum_zeros (settings_in s 1 count) (8 - count))))
 
 drop_zeros : (m n : ℕ) → drop n (replicate m no_setting) ≡ replicate (m - n) no_setting
 drop_zeros m zero = rw sub-zero

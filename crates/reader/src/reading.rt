@@ -48,7 +48,7 @@ pub fn read_update(s: &[u8], count: usize) -> Result<Frame, Refusal>
     ensures { reported result ≡ tested_values (field (get_or s.now 0 0) 0 5) (update count (entries_in s.now count)) }
 {
     let entries = layout::entries_in(s, count);
-    let right = layout::check_of(s[0]) == checks::check_update(&entries);
+    let right = layout::check_of(s[0]) == checks::check_update(&entries[..count]);
     let fields = Fields {
         ident: Ident::Update.number(),
         entries,

@@ -68,7 +68,7 @@ pub fn put_update(count: usize, entries: [Setting; 8], out: &mut [u8])
     ensures { out.new ≡ sets out.old 0 (frame (update count entries)) }
 {
     put_settings(&entries[..count], out);
-    out[0] = head_of(Ident::Update, checks::check_update(&entries));
+    out[0] = head_of(Ident::Update, checks::check_update(&entries[..count]));
 }
 
 pub fn put_single(v: Single, out: &mut [u8])
