@@ -11,11 +11,6 @@ use Rattle.commands.specs.Commands.{Command, Command.init, Command.update, Comma
 use Rattle.frames.specs.Layout.{ident_in, init_word, init_of, entry_in, entries_in, single_in, command_in, check_in}
 use Rattle.frames.specs.Reader.{shape_tests, value_tests, found, refused_read, read_frame}
 
--- no bytes, no first byte
-pub empty_first : (s : List ℕ) → length s ≡ 0 → 0 ≡ get_or s 0 0
-empty_first [] e = refl
-empty_first (b ∷ s) e = absurd (omega arith)
-
 -- a Channel_Number that is read has three bits
 pub channel_fits : (s : List ℕ) (count : ℕ) → (read_frame s count).fields.single.channel < 8
 unfolding read_frame command_in entry_in
