@@ -1,13 +1,13 @@
 -- What the reader's code tells, test by test. Assumes nothing.
 use mathlib.Core.Path.{◌≡◌, refl, sym, ap, subst, ◌∙◌}
 use mathlib.Core.Bool.{Bool, true, false, cond, ◌&&◌, true≢false}
-use mathlib.Core.List.{List, ◌++◌}
+use mathlib.Core.List.{List}
 use Prim.Native.Nat.{ℕ, ◌≤◌, ◌<◌, ◌+◌}
 use native.Mathlib.Omega.{arith}
 use lib.Dec.{eqb}
 use lib.ListN.{length, drop, length-drop}
 use borrow.Author.Tests.{le-ltb, lt-ltb, ne_eqb, eq-eqb, eqb-true}
-use Rattle.std.specs.Prelude.{Option, None, Some, Result, Ok, Err, IfOk}
+use Rattle.std.specs.Prelude.{None, Some, Result, Ok, Err, IfOk}
 use Rattle.std.proofs.lemmas.Option.{none-some}
 use Rattle.slices.specs.Overlay.{overlay}
 use Rattle.slices.proofs.Overlay.{overlay_fits}
@@ -19,7 +19,7 @@ use Rattle.commands.specs.Refusals.{number}
 use Rattle.packets.specs.Generation.{Generation}
 use Rattle.packets.specs.Laws.{Lawful}
 use Rattle.packets.proofs.Readings.{passes}
-use Rattle.packets.specs.Reader.{plain, data_in, covered, covered_answer, body_answer, refused, answered, put}
+use Rattle.packets.specs.Reader.{plain, covered, covered_answer, body_answer, refused, answered, put}
 use Rattle.commands.specs.declared.refusals.Refusal.{Refusal}
 use Rattle.packets.specs.declared.Meaning.{Meaning}
 use Rattle.packets.specs.Reported.{meant, told, Tells}

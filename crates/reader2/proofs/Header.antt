@@ -1,13 +1,12 @@
 -- Checksum and length as the code tests them: by how many bytes there are. Assumes nothing.
 use mathlib.Core.Path.{◌≡◌, refl, sym}
-use mathlib.Core.Bool.{Bool, true, false, ◌&&◌, and-false}
+use mathlib.Core.Bool.{false, ◌&&◌, and-false}
 use mathlib.Core.List.{List}
-use Prim.Native.Nat.{ℕ, ◌-◌, ◌≤◌, ◌<◌}
+use Prim.Native.Nat.{ℕ, ◌-◌, ◌<◌}
 use native.Mathlib.Omega.{arith}
 use lib.Bits.{bit_xor}
-use lib.Dec.{eqb, ltb}
+use lib.Dec.{eqb}
 use lib.ListN.{length, drop, get_or, length-drop, drop_of_length-le, get_or-eq_default}
-use borrow.Author.Tests.{ltb-true, ltb-false}
 use Rattle.crc.specs.Crc.{crc, crc8}
 use Rattle.packets2.specs.Rehastim2.{check_right, length_right}
 
@@ -31,10 +30,3 @@ module _ (b : List ℕ) where
   pub length_whole : (eqb (get_or b 2 0) 129 && eqb (get_or b 3 0) (bit_xor (length b - 4) 85)) ≡ length_right b
   unfolding length_right
   length_whole = rw length-drop
-
-  pub length_long : length_right b ≡ true → 4 ≤ length b
-  length_long e = by (ltb (length b) 4) refl
-    where
-      by : (t : Bool) → ltb (length b) 4 ≡ t → 4 ≤ length b
-      by true h = absurd (let k = length_short (ltb-true (length b) 4 h) in let z : ◌≡◌ {A = ℕ} 0 1 = cc in omega arith)
-      by false h = ltb-false (length b) 4 h

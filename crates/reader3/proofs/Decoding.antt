@@ -17,7 +17,6 @@ use Rattle.packets.specs.Reader.{Reading, covered, body_answer, refused, found, 
 use Rattle.decode3.specs.declared.Decoded.{Decoded}
 use Rattle.commands3.specs.declared.Message.{Message}
 use Rattle.packets3.specs.Rehamove3.{rehamove3}
-use Rattle.reader3.specs.declared.Read.{Read}
 use Rattle.reader3.specs.Reader.{as_read, read_packet}
 use Rattle.reader3.specs.Decoding.{decoding, as_decoded}
 

@@ -69,14 +69,12 @@ impl Protocol<1190> for Rehamove3 {
     }
 
     fn told(content: &[u8]) -> Option<Meaning<Decoded>> {
-        match decode3::decode(content) {
-            Some(command) => Some(Meaning {
-                packet: command.packet,
-                command,
-                size: content.len() - 2,
-            }),
-            None => None,
-        }
+        let command = decode3::decode(content)?;
+        Some(Meaning {
+            packet: command.packet,
+            command,
+            size: content.len() - 2,
+        })
     }
 
     ghost behind = { behind };

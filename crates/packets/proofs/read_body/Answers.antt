@@ -50,7 +50,7 @@ returns g c =
     let out = c.args.out.now in
     let r = c.read_covered in
     let e = behind b c.header.result m.header c.header.ensures in
-    let f = by_covered m b out 0 (sym c.check_right.ensures ∙ c.if-not-check_right.false) (sym c.length_right.ensures ∙ c.if-not-length_right.false) in
+    let f = by_covered m b out (sym c.check_right.ensures ∙ c.if-not-check_right.false) (sym c.length_right.ensures ∙ c.if-not-length_right.false) in
     let t = subst (λ (n : ℕ). Tells m r.result n (covered m b)) f (told_alike m r.result _ (covered m b) (length out) e r.ensures.told) in
     record {
       told = t;

@@ -3,8 +3,7 @@ use mathlib.Core.Path.{◌≡◌, sym, ap, ◌∙◌}
 use mathlib.Core.Bool.{false, ◌&&◌}
 use Prim.Native.Nat.{ℕ}
 use native.Mathlib.Omega.{arith}
-use lib.ListN.{length, take}
-use lib.Seq.{length-take-le}
+use lib.ListN.{length}
 use Rattle.stuffing.specs.Stuffing.{stuffed, pairs_good}
 use Rattle.stuffing.proofs.Laws.{none_stuffed}
 use Rattle.stuffing.proofs.Buffer.{front_stuffed}

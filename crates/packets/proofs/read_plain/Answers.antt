@@ -6,7 +6,7 @@ use native.Mathlib.Omega.{arith}
 use lib.ListN.{length, take, drop, length-drop}
 use lib.Seq.{take_all}
 use Rattle.stuffing.specs.Stuffing.{stuffed}
-use Rattle.packets.specs.Reader.{covered_answer, put}
+use Rattle.packets.specs.Reader.{put}
 use Rattle.packets.proofs.Telling.{told_good, told_none, content_4, left_by_4, left_by_16, tells_all, puts_all, tells_16}
 use Rattle.packets.proofs.read_plain.Goals as goal
 
