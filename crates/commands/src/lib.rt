@@ -88,7 +88,7 @@ impl From<Result<u8, Refusal>> for Wrote {
 fn good_pulse(width: u16, current: u8) -> bool
     ensures { result ≡ good_pulse width current }
 {
-    (width == 0 || (10..=500).contains(&width)) && current <= 127
+    ((width == 0) | (10..=500).contains(&width)) & (current <= 127)
 }
 
 pub fn good_init(v: Init) -> bool
@@ -101,7 +101,7 @@ pub fn good_init(v: Init) -> bool
 pub fn good_setting(v: Setting) -> bool
     ensures { result ≡ good_setting v }
 {
-    v.mode <= 2 && good_pulse(v.width, v.current)
+    (v.mode <= 2) & good_pulse(v.width, v.current)
 }
 
 // Whether a setting is zero throughout.

@@ -12,6 +12,7 @@ use Rattle.commands.specs.declared.Setting.{Setting}
 use mathlib.Core.Bool.{true}
 use Rattle.commands.specs.Commands.{Command.update, no_setting, good_setting, good_entries}
 use Rattle.commands.proofs.Fits.{listed_good}
+use Rattle.checks.specs.Reduced.{reduced, settings_variables}
 use Rattle.frames.specs.Bytes.{entry_bytes, settings_bytes, frame}
 
 -- three bytes a setting
@@ -36,6 +37,18 @@ write_turn listed i out h =
 pub write_end : (listed : List Setting) (i at : ℕ) (out : List ℕ) → length listed ≤ i → sets out at (settings_bytes (drop i listed)) ≡ out
 unfolding settings_bytes
 write_end listed i at out h = rw (drop_of_length-le listed h)
+
+-- and its variables off those that are left to be summed
+pub sum_turn : (listed : List Setting) (i remainder : ℕ) → i < length listed
+    → let v : Setting = get_or listed i no_setting in
+    reduced 32 (reduced 32 remainder (v.mode ∷ v.width ∷ v.current ∷ [])) (settings_variables (drop (i + 1) listed))
+    ≡ reduced 32 remainder (settings_variables (drop i listed))
+unfolding reduced settings_variables
+sum_turn listed i remainder h = rw (drop-cons listed i no_setting h, add-one i)
+
+pub sum_end : (listed : List Setting) (i remainder : ℕ) → length listed ≤ i → reduced 32 remainder (settings_variables (drop i listed)) ≡ remainder
+unfolding reduced settings_variables
+sum_end listed i remainder h = rw (drop_of_length-le listed h)
 
 -- the listed entries of a good Update are good
 pub listed_good_each : (entries : List Setting) (count : ℕ) → good_entries entries count ≡ true → count ≤ length entries

@@ -1,7 +1,7 @@
 // A good command's bytes, stored at the front of an output that has room for them.
 ghost use Rattle.std.specs.Prelude.{true, ◌≡◌, ◌+◌, ◌-◌, ◌*◌, ◌^◌, ◌≤◌, ◌<◌, length, get_or, EachIndex};
 ghost use Rattle.std.proofs.lemmas.List.Edits.{sets};
-ghost use Rattle.commands.specs.Commands.{Command.init, Command.update, Command.single, no_setting, good_setting, good};
+ghost use Rattle.commands.specs.Commands.{Command.init, Command.update, Command.single, no_setting, check_of, good_setting, good};
 ghost use Rattle.commands.specs.Idents.{number};
 ghost use Rattle.frames.specs.Bytes.{head, init_number, entry_bytes, settings_bytes, frame};
 
@@ -52,23 +52,27 @@ fn put_entry(low: u64, lead: u8, width: u16, current: u8, out: &mut [u8], at: us
     out[at + 2] = current;
 }
 
-// The entries of good settings, stored from the second byte on.
-fn put_settings(listed: &[Setting], out: &mut [u8])
+// The entries of good settings, stored from the second byte on, and their Check: a loop for each takes longer.
+fn put_settings(listed: &[Setting], out: &mut [u8]) -> u64
     requires { EachIndex listed.now (λ i. good_setting (get_or listed.now i no_setting) ≡ true) × (1 + 3 * length listed.now ≤ length out.old) }
-    ensures { out.new ≡ sets out.old 1 (settings_bytes listed.now) }
+    ensures check { result ≡ check_of (update (length listed.now) listed.now) }
+    ensures bytes { out.new ≡ sets out.old 1 (settings_bytes listed.now) }
 {
+    let mut remainder = 0;
     for (i, v) in listed.iter().enumerate() {
         let at = sizes::FIRST + sizes::ENTRY * i;
         put_entry(frames::MODE_BIT, v.mode, v.width, v.current, out, at);
+        remainder = checks::plus_entry(remainder, v.mode, v.width, v.current);
     }
+    u64::from(remainder)
 }
 
 pub fn put_update(count: usize, entries: [Setting; 8], out: &mut [u8])
     requires { (good (update count entries) ≡ true) × (1 + 3 * count ≤ length out.old) }
     ensures { out.new ≡ sets out.old 0 (frame (update count entries)) }
 {
-    put_settings(&entries[..count], out);
-    out[0] = head_of(Ident::Update, checks::check_update(&entries[..count]));
+    let check = put_settings(&entries[..count], out);
+    out[0] = head_of(Ident::Update, check);
 }
 
 pub fn put_single(v: Single, out: &mut [u8])

@@ -11,8 +11,8 @@ use Rattle.frames.specs.Bytes.{settings_bytes}
 use Rattle.writers.proofs.Rows.{listed_good_each, set_after}
 use Rattle.writers.proofs.storing.put_update.Goals as goal
 
-pub put_settings-requires : goal.put_settings-requires
-put_settings-requires c =
+pub put_settings-check-requires : goal.put_settings-check-requires
+put_settings-check-requires c =
     let a = c.args in
     let h : a.count ≤ 8 = update_count a.count a.entries c.requires.0 in
     let l : a.count ≤ length a.entries = omega (arith, c.well_formed, h) in
@@ -24,4 +24,4 @@ returns c =
     let h : a.count ≤ 8 = update_count a.count a.entries c.requires.0 in
     let l : a.count ≤ length a.entries = omega (arith, c.well_formed, h) in
     let check = check_listed a.count a.entries (both (good_count a.count) (good_entries a.entries a.count) c.requires.0).1 l in
-    rw (c.put_settings.ensures, c.head_of.ensures, c.check_update.ensures ∙ check) (set_after a.out.now (settings_bytes (take a.count a.entries)) 0 1 _ (omega arith))
+    rw (c.put_settings-check.ensures.bytes, c.head_of.ensures, c.put_settings-check.ensures.check ∙ check) (set_after a.out.now (settings_bytes (take a.count a.entries)) 0 1 _ (omega arith))
