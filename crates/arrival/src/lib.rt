@@ -13,7 +13,7 @@ ghost use Rattle.effects.specs.Deciding.{Whole};
 
 use commands::idents::Ident;
 use commands::refusals::Refusal;
-use commands::{answers, sizes};
+use commands::sizes;
 use decided::Decided;
 use outcome::Stepped;
 use partial::PartialFrame;
@@ -60,7 +60,7 @@ fn keep(b: &Box, partial: PartialFrame) -> Stepped
     ensures { result ≡ unfinished b.now partial }
 {
     Stepped {
-        said: said::say(answers::UNFINISHED, 0),
+        said: said::say(Refusal::Unfinished.number(), 0),
         records: Records::Empty,
         next: Box { partial, ..*b },
     }

@@ -17,11 +17,3 @@ impl Ident {
         self as u8
     }
 }
-
-pub const INIT: u8 = 0;
-
-pub const UPDATE: u8 = 1;
-
-pub const STOP: u8 = 2;
-
-pub const SINGLE: u8 = 3;

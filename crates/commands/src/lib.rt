@@ -1,7 +1,6 @@
 // The four commands (document 01, "The four frames"): their variables and good values; the reply byte.
 #![tactic(auto)]
 
-pub mod answers;
 pub mod idents;
 pub mod refusals;
 pub mod sizes;
@@ -12,7 +11,7 @@ ghost use Rattle.commands.specs.Commands.{Command.init, Command.update, Command.
 ghost use Rattle.commands.specs.Reply.{is_decision, reply};
 ghost use Rattle.commands.specs.Refusals.{report};
 
-use refusals::Refusal;
+use refusals::{DONE, Refusal};
 
 // What an Init sets: N_Factor, Channel_Stim, Channel_Lf, Group_Time, Main_Time.
 #[repr(C)]
@@ -152,7 +151,8 @@ pub fn good_single(v: Single) -> bool
 pub fn is_decision(answer: u8) -> bool
     ensures { result ≡ is_decision answer }
 {
-    answer == answers::DONE || (answers::WRONG_CHECK..=answers::WHILE_TRIPPED).contains(&answer)
+    answer == DONE
+        || (Refusal::WrongCheck.number()..=Refusal::WhileTripped.number()).contains(&answer)
 }
 
 // The reply byte to a command of this Ident, of which the two lowest bits count; 0 where the answer decides none.
@@ -160,7 +160,7 @@ pub fn reply_to(ident: u8, answer: u8) -> u8
     ensures { result ≡ reply ident answer }
 {
     if is_decision(answer) {
-        ident % 4 * 64 + u8::from(answer == answers::DONE)
+        ident % 4 * 64 + u8::from(answer == DONE)
     } else {
         0
     }

@@ -2,6 +2,9 @@
 ghost use Rattle.std.specs.Prelude.{◌≡◌};
 ghost use Rattle.commands.specs.Refusals.{number, answer};
 
+// The answer of a call that is carried out.
+pub const DONE: u8 = 0;
+
 #[derive(Clone, Copy, Debug, PartialEq, Eq)]
 pub enum Refusal {
     Unfinished = 1,
@@ -36,7 +39,7 @@ pub fn answer<T>(outcome: &Result<T, Refusal>) -> u8
     ensures { result ≡ answer outcome.now }
 {
     match outcome {
-        Ok(_) => 0,
+        Ok(_) => DONE,
         Err(refusal) => refusal.number(),
     }
 }

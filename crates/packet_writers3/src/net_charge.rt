@@ -4,7 +4,7 @@ ghost use Rattle.charge.specs.Charge.{weighed};
 ghost use Rattle.packet_writers3.specs.Weighing.{weighed_as};
 
 use charge::Pulse;
-use commands::answers;
+use commands::refusals::{DONE, Refusal};
 
 #[repr(C)]
 #[derive(Clone, Copy)]
@@ -20,11 +20,11 @@ pub extern "C" fn yarrowbell_rehamove3_charge(pulse: Pulse) -> Weighed
     match charge::weigh(pulse) {
         Some(charge) => Weighed {
             charge,
-            answer: answers::DONE as u32,
+            answer: u32::from(DONE),
         },
         None => Weighed {
             charge: 0,
-            answer: answers::NOT_GOOD as u32,
+            answer: u32::from(Refusal::NotGood.number()),
         },
     }
 }

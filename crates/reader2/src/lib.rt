@@ -8,7 +8,7 @@ ghost use Rattle.packets2.proofs.Lawful.{lawful};
 ghost use Rattle.reader2.specs.Reader.{as_read, read_packet};
 ghost use Rattle.packets2.proofs.Asked.{behind, few, two};
 
-use commands::answers;
+use commands::refusals::DONE;
 use commands2::Command;
 use packets::{Meaning, Packet, Protocol, Refused};
 use stuffing::{KEY, STUFFING};
@@ -110,7 +110,7 @@ pub fn read_packet(s: &[u8], out: &mut [u8]) -> Read
 {
     match packets::read::<Rehastim2, 62>(s, out) {
         Ok(Packet { used, meaning }) => Read {
-            answer: answers::DONE,
+            answer: DONE,
             used,
             packet: meaning.packet,
             command: meaning.command,

@@ -8,7 +8,7 @@ ghost use Rattle.packets3.proofs.Asked.{behind, few, two};
 ghost use Rattle.reader3.specs.Decoding.{decoding, lawful, as_decoded};
 ghost use Rattle.reader3.specs.Reader.{read_packet};
 
-use commands::answers;
+use commands::refusals::DONE;
 use commands3::{Command, Message, NO_PULSE};
 use decode3::Decoded;
 use packets::{Meaning, Packet, Protocol, Refused};
@@ -94,7 +94,7 @@ fn report(used: usize, packet: u8, d: Decoded, size: u16) -> Read
 {
     let message = d.message;
     Read {
-        answer: answers::DONE,
+        answer: DONE,
         used,
         packet,
         message,
