@@ -1,14 +1,14 @@
 // A frame of each kind: the tests of its values, and the fields that are handed back.
 ghost use Rattle.std.specs.Prelude.{cond, ◌≡◌, ◌+◌, ◌*◌, ◌≤◌, length, get_or};
 ghost use Rattle.bits.specs.Fields.{field};
-ghost use Rattle.commands.specs.Commands.{Command.init, Command.update, Command.stop, Command.single};
+ghost use Rattle.commands.specs.Commands.{Command.init, Command.update, Command.stop, Command.single, good_entries};
 ghost use Rattle.frames.specs.Layout.{init_word, init_of, entries_in, single_in};
 ghost use Rattle.frames.specs.Reader.{refused_read, reported, tested_values};
 
 use super::layout;
 use commands::idents::Ident;
 use commands::refusals::Refusal;
-use commands::sizes;
+use commands::{Setting, sizes};
 use frames::{Fields, Frame, NO_FIELDS};
 
 // 3; 4; else the frame.
@@ -43,23 +43,26 @@ pub fn read_init(s: &[u8]) -> Result<Frame, Refusal>
     judged(right, commands::good_init(init), sizes::INIT, fields)
 }
 
+// Whether these settings are good. The listed entries alone are looked at: those past them are zero.
+fn good_listed(listed: &[Setting]) -> bool
+    ensures { result ≡ good_entries listed.now (length listed.now) }
+{
+    listed.iter().all(|v| commands::good_setting(*v))
+}
+
 pub fn read_update(s: &[u8], count: usize) -> Result<Frame, Refusal>
     requires { (count ≤ 8) × (1 + 3 * count ≤ length s.now) }
     ensures { reported result ≡ tested_values (field (get_or s.now 0 0) 0 5) (update count (entries_in s.now count)) }
 {
     let entries = layout::entries_in(s, count);
+    let good = commands::good_count(count) & good_listed(&entries[..count]);
     let right = layout::check_of(s[0]) == checks::check_update(&entries[..count]);
     let fields = Fields {
         ident: Ident::Update.number(),
         entries,
         ..NO_FIELDS
     };
-    judged(
-        right,
-        commands::good_update(count, entries),
-        sizes::FIRST + sizes::ENTRY * count,
-        fields,
-    )
+    judged(right, good, sizes::FIRST + sizes::ENTRY * count, fields)
 }
 
 pub fn read_stop(first: u8) -> Result<Frame, Refusal>
