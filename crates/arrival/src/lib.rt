@@ -1,4 +1,4 @@
-// Document 01, "Bytes".
+// Document 01, "Bytes". That a box is good, and how long its partial frame is, is asked where it is needed: C may hand in any.
 #![tactic(auto)]
 
 ghost use Rattle.std.specs.Prelude.{true, ◌≡◌, [], ◌∷◌, ◌≤◌, ◌<◌, take};

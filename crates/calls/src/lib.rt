@@ -5,7 +5,7 @@
 use record::Box;
 use said::Said;
 
-// What the making of a box answers, and the box, all zero where it is refused.
+// What the making of a box answers, as C reads it, and the box, all zero where it is refused.
 #[repr(C)]
 #[derive(Clone, Copy)]
 pub struct Made {
@@ -13,7 +13,7 @@ pub struct Made {
     pub made: Box,
 }
 
-// What a call says, and the box that it leaves.
+// What a call says, and the box that it leaves, as C reads them.
 #[repr(C)]
 #[derive(Clone, Copy)]
 pub struct Called {

@@ -12,7 +12,7 @@ pub struct Point {
     pub code: u16,
 }
 
-// The first points are the pulse's, so many as number says; those past it are zero.
+// The first points are the pulse's, so many as number says; those past it are zero, as the C struct has them.
 #[repr(C)]
 #[derive(Clone, Copy, PartialEq, Eq)]
 pub struct Pulse {

@@ -133,6 +133,7 @@ pub fn good_count(count: usize) -> bool
     (1..=8).contains(&count)
 }
 
+// Eight entries and a count, as `yarrowbell_write_update` has them.
 pub fn good_update(count: usize, entries: [Setting; 8]) -> bool
     ensures { result ≡ good (update count entries) }
 {
@@ -147,7 +148,7 @@ pub fn good_single(v: Single) -> bool
 
 // ---- the reply
 
-// Whether an answer decides a command: it was carried out, or refused.
+// Whether an answer, by its number, decides a command: it was carried out, or refused. `yarrowbell_reply` takes any number.
 pub fn is_decision(answer: u8) -> bool
     ensures { result ≡ is_decision answer }
 {

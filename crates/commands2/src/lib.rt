@@ -20,6 +20,7 @@ pub struct ChannelList {
     pub execution: u8,
 }
 
+// Values as C gives them to the writers, good or not (`good`).
 #[derive(Clone, Copy)]
 pub enum Command {
     Init { version: u8 },

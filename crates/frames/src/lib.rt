@@ -90,7 +90,7 @@ fn whole(s: &[u8], n: usize) -> Result<(), Refusal>
     Ok(())
 }
 
-// What is handed back: the frame that was found, or 0 bytes and all fields zero.
+// What C is handed back: the frame that was found, or 0 bytes and all fields zero.
 pub fn handed_back(outcome: Result<Frame, Refusal>) -> Frame
     ensures { record { answer = answer outcome; used = result.used; fields = result.fields } ≡ reported outcome }
 {

@@ -56,14 +56,14 @@ fn is_quiet(s: &[u8], at: usize) -> bool
 }
 
 // What a walk along some bytes comes to: a finished packet, or what is known behind the bytes, which is the last of them and where the body of the
-// open packet begins. A body never lies at 0, which stands for no open packet: an Option says no more, and is looked at for each byte.
+// open packet begins. No Result: to be unfinished is no error, and both have values. A body never lies at 0, which stands for no open packet: an Option says no more, and is looked at for each byte.
 #[derive(Clone, Copy)]
 enum Walked {
     Finished(Found),
     Unfinished { prev: u8, body: usize },
 }
 
-// The bytes from at to end passed one by one.
+// The bytes from at to end passed one by one, by their places, which tell where a packet begins and ends.
 fn walk(s: &[u8], last: u8, start: usize, from: usize, end: usize) -> Walked
     requires { (from ≤ end) × (end ≤ length s.now) }
     ensures { Walks result (scan last start from (drop from s.now)) end (drop end s.now) }
@@ -90,6 +90,7 @@ fn walk(s: &[u8], last: u8, start: usize, from: usize, end: usize) -> Walked
 pub fn find(s: &[u8]) -> Option<Found>
     ensures { result ≡ finished (scan 0 0 0 s.now) }
 {
+    // 0 stands for any byte that is not a stuffing byte.
     let mut prev: u8 = 0;
     let mut body = 0;
     let mut at = 0;
@@ -150,7 +151,7 @@ fn put_stuffed(out: &mut [u8], at: usize, bytes: &[u8]) -> usize
     to
 }
 
-// Puts bytes from place at on, each stuffed, and gives the place after them.
+// Puts bytes from place at on, each stuffed, and gives the place after them. A loop handed another `put` would say no less.
 fn put_pairs(out: &mut [u8], at: usize, bytes: &[u8]) -> usize
     requires { at + length (pairs bytes.now) ≤ length out.old }
     ensures { (result ≡ at + length (pairs bytes.now)) × (out.new ≡ sets out.old at (pairs bytes.now)) }

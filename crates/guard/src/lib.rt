@@ -28,7 +28,7 @@ pub fn tick(b: &Box, buf: &mut [u8], at: Part) -> Called
     filing::finish(buf, at, &ticks::take_tick(b, ready))
 }
 
-// The trace: 12, 13, 14, 16, else the tail copied to the front of out, oldest first.
+// The trace, its answer a number for C (`yarrowbell_readout`): 12, 13, 14, 16, else the tail copied to the front of out, oldest first.
 #[tactic(auto, unfolding(calls::specs::Readout::readout_of, calls::specs::Readout::readout_bytes))]
 pub fn readout(b: &Box, buf: &[u8], at: Part, out: &mut [u8]) -> Readout
     ensures { (result ≡ readout_of b.now buf.now at (length out.old)) × (out.new ≡ readout_bytes b.now buf.now at out.old) }

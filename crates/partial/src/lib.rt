@@ -1,4 +1,5 @@
-// The partial frame of a box record (document 01, last paragraph of "The machine"), and the test of it.
+// The partial frame of a box record (document 01, last paragraph of "The machine"), and the test of it. Its length is asked where it is needed: C may
+// hand in any.
 #![tactic(auto)]
 
 ghost use Rattle.std.specs.Prelude.{◌&&◌, ◌≡◌, ◌≤◌, take, drop};

@@ -59,6 +59,7 @@ pub fn due(r: &Run, which: Module) -> Option<usize>
 {
     let first = which.first();
     let mut from = which.offset();
+    // By index: it is the number of the channel, which the sets are asked for and which is given back.
     for i in first..first + model::CHANNELS as usize {
         if is_due(r, i, r.settings[i], from) {
             return Some(i);

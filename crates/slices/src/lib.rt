@@ -6,7 +6,7 @@ ghost use Rattle.slices.specs.Overlay.{overlay};
 ghost use Rattle.slices.specs.Stored.{placed, stored_in};
 ghost use Rattle.slices.specs.Starts.{starts};
 
-// The byte at a place, 0 behind the last.
+// The byte at a place, 0 behind the last: what a packet has too little counts as 0 until its size is tested.
 pub fn byte_at(p: &[u8], i: usize) -> u8
     ensures { result ≡ get_or p.now i 0 }
 {

@@ -98,7 +98,7 @@ fn plain(after: bool, b: u8) -> u8
     if after { b ^ KEY } else { b }
 }
 
-// Puts b at place at, if out has it.
+// Puts b at place at, if out has it. Not by `get_mut`: the proof does not learn what out is after it.
 fn put(out: &mut [u8], at: usize, b: u8)
     ensures { out.new ≡ set out.old at b }
 {

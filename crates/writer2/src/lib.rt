@@ -12,7 +12,7 @@ use commands::refusals::Refusal;
 use commands2::Command;
 use packets::Told;
 
-// Writes the packet of a content that is short enough for its length to have one byte: how many bytes it has, none where out is too short.
+// Writes the packet of a content, whose length has one byte here, so that the RehaMove3 has a function of its own: how many bytes it has, none where out is too short.
 fn write_content(content: &[u8], out: &mut [u8]) -> Option<usize>
     requires { length content.now ≤ 62 }
     ensures size { result ≡ some_size (size_written out.old (header_of content.now) content.now) }
@@ -23,7 +23,7 @@ fn write_content(content: &[u8], out: &mut [u8]) -> Option<usize>
     framing::write(out, &header, content)
 }
 
-// What a command's packet holds, by value: packet number, command, data.
+// What a command's packet holds, by value and place by place: packet number, command, data.
 fn content_of(packet: u8, number: u8, d: [u8; 7]) -> [u8; 9]
     ensures { result ≡ packet ∷ number ∷ d }
 {

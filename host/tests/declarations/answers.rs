@@ -1,5 +1,4 @@
-//! The answers of Rust's table are the library's constants, by number and name: `WRONG_CHECK` is
-//! `WrongCheck`.
+//! The answers of Rust's table are the library's, by number and name: `DONE`, and its refusals.
 
 use crate::altered::changed;
 use crate::differences::differences;
@@ -8,32 +7,25 @@ use crate::{rattle, sources};
 use std::collections::BTreeMap;
 use yarrowbell::Answer;
 
-const LIBRARY: &str = "crates/commands/src/answers.rt";
+const LIBRARY: &str = "crates/commands/src/refusals.rt";
 
-/// Rust's table as constants.
+/// Rust's table as the library has it.
 fn table() -> Items {
-    let constant = |answer: Answer| {
+    let named = |answer: Answer| {
         let parts = BTreeMap::from([(Place::Value, answer.number().to_string())]);
         let file = "host/src/answer.rs".to_owned();
-        (format!("const {}", in_capitals(&format!("{answer:?}"))), Item { file, parts })
+        let name = match answer {
+            Answer::Done => "const DONE".to_owned(),
+            refusal => format!("variant {refusal:?}"),
+        };
+        (name, Item { file, parts })
     };
-    gathered(Answer::ALL.map(constant))
-}
-
-/// A name of capitalised words as a constant has it.
-fn in_capitals(name: &str) -> String {
-    let mut capitals = String::new();
-    for letter in name.chars() {
-        if letter.is_uppercase() && !capitals.is_empty() {
-            capitals.push('_');
-        }
-        capitals.push(letter.to_ascii_uppercase());
-    }
-    capitals
+    gathered(Answer::ALL.map(named))
 }
 
 fn compared(library: &str) -> Vec<String> {
-    differences(&gathered(rattle::constants(LIBRARY, library)), &table())
+    let constants = rattle::constants(LIBRARY, library);
+    differences(&gathered(constants.into_iter().chain(rattle::variants(LIBRARY, library))), &table())
 }
 
 #[test]
@@ -52,22 +44,23 @@ fn the_numbers_are_document_01s() {
 fn another_number_name_or_answer_is_told() {
     let told = |from, to| compared(&changed(&sources::text(LIBRARY), from, to));
     assert_eq!(
-        told("IN_HOLD: u8 = 8;", "IN_HOLD: u8 = 7;"),
-        [format!("const IN_HOLD, value: {LIBRARY} has `7`, host/src/answer.rs has `8`")]
+        told("InHold = 8,", "InHold = 7,"),
+        [format!("variant InHold, value: {LIBRARY} has `7`, host/src/answer.rs has `8`")]
     );
     assert_eq!(
-        told("IN_HOLD", "HELD"),
+        told("InHold", "Held"),
         [
-            format!("const HELD stands in {LIBRARY} alone"),
-            "const IN_HOLD stands in host/src/answer.rs alone".to_owned(),
+            format!("variant Held stands in {LIBRARY} alone"),
+            "variant InHold stands in host/src/answer.rs alone".to_owned(),
         ]
     );
     assert_eq!(
-        told("CUT: u8 = 17;", "CUT: u8 = 17;\n\npub const LATE: u8 = 18;"),
-        [format!("const LATE stands in {LIBRARY} alone")]
+        told("Cut = 17,", "Cut = 17,\n    Late = 18,"),
+        [format!("variant Late stands in {LIBRARY} alone")]
     );
+    assert_eq!(told("    Cut = 17,", ""), ["variant Cut stands in host/src/answer.rs alone"]);
     assert_eq!(
-        told("pub const CUT: u8 = 17;", ""),
-        ["const CUT stands in host/src/answer.rs alone"]
+        told("DONE: u8 = 0;", "DONE: u8 = 1;"),
+        [format!("const DONE, value: {LIBRARY} has `1`, host/src/answer.rs has `0`")]
     );
 }

@@ -3,7 +3,7 @@
 use crate::types;
 use std::collections::BTreeMap;
 use std::fmt;
-use syn::{Field, FnArg, ItemConst, ItemStruct, Pat, ReturnType, Signature};
+use syn::{Expr, Field, FnArg, ItemConst, ItemStruct, Pat, ReturnType, Signature, Variant};
 
 /// The items of one side by what they are and their names, as `struct Init`.
 pub type Items = BTreeMap<String, Item>;
@@ -85,8 +85,13 @@ pub fn of_function(file: &str, item: &Signature) -> (String, Item) {
 }
 
 pub fn of_constant(file: &str, item: &ItemConst) -> (String, Item) {
-    let value = types::number(&item.expr).map(|value| (Place::Value, value.to_owned()));
-    of(file, format!("const {}", item.ident), value.map(|value| BTreeMap::from([value])))
+    of(file, format!("const {}", item.ident), value(&item.expr))
+}
+
+/// A variant that has a number.
+pub fn of_variant(file: &str, item: &Variant) -> (String, Item) {
+    let (_, number) = item.discriminant.as_ref().expect("a variant has its number");
+    of(file, format!("variant {}", item.ident), value(number))
 }
 
 fn of(file: &str, name: String, parts: Option<BTreeMap<Place, String>>) -> (String, Item) {
@@ -94,6 +99,10 @@ fn of(file: &str, name: String, parts: Option<BTreeMap<Place, String>>) -> (Stri
         Some(parts) => (name, Item { file: file.to_owned(), parts }),
         None => panic!("{file}: {name} has a part that cannot cross the boundary"),
     }
+}
+
+fn value(number: &Expr) -> Option<BTreeMap<Place, String>> {
+    types::number(number).map(|value| BTreeMap::from([(Place::Value, value.to_owned())]))
 }
 
 fn fields(item: &ItemStruct) -> Option<BTreeMap<Place, String>> {

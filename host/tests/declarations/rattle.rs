@@ -2,7 +2,7 @@
 
 use crate::item::{self, Item};
 use syn::parse::Parse;
-use syn::{ItemConst, ItemStruct, Signature};
+use syn::{ItemConst, ItemEnum, ItemStruct, Signature};
 
 /// The structs that have a layout, and the functions that have a symbol, in a source.
 pub fn items(file: &str, source: &str) -> Vec<(String, Item)> {
@@ -27,6 +27,17 @@ pub fn constants(file: &str, source: &str) -> Vec<(String, Item)> {
         item::of_constant(file, &parsed::<ItemConst>(file, &format!(" const {}", &rest[..end])))
     };
     behind(&code, "pub const").map(constant).collect()
+}
+
+/// The variants of the enums in a source.
+pub fn variants(file: &str, source: &str) -> Vec<(String, Item)> {
+    let code = without_comments(source);
+    let variants = |rest: &str| {
+        let end = rest.find('}').map_or(rest.len(), |end| end + 1);
+        let all = parsed::<ItemEnum>(file, &format!(" enum {}", &rest[..end])).variants;
+        all.iter().map(|variant| item::of_variant(file, variant)).collect::<Vec<_>>()
+    };
+    behind(&code, "pub enum").flat_map(variants).collect()
 }
 
 fn without_comments(source: &str) -> String {
