@@ -2,7 +2,6 @@
 #![tactic(auto)]
 
 ghost use Rattle.std.specs.Prelude.{true, ◌≡◌, [], ◌∷◌, ◌≤◌, ◌<◌, take};
-ghost use Rattle.commands.specs.Refusals.{answer};
 ghost use Rattle.model.specs.Arrival.{taken, opened_update, opened, followed, Arrival.alone, Arrival.whole};
 ghost use Rattle.model.specs.Machine.{step, Call.byte};
 ghost use Rattle.partial.specs.Partial.{frame_of};
@@ -12,7 +11,7 @@ ghost use Rattle.arrival.specs.Arriving.{open_in, grown, unfinished, settled};
 ghost use Rattle.effects.specs.Deciding.{Whole};
 
 use commands::idents::Ident;
-use commands::refusals::Refusal;
+use commands::refusals::{DONE, Refusal};
 use commands::sizes;
 use decided::Decided;
 use outcome::Stepped;
@@ -93,7 +92,7 @@ fn alone(b: &Box) -> Stepped
     };
     settle(
         b,
-        decided::tell(b.clock, Ident::Update, Err(refusal), b.core),
+        decided::tell(b.clock, Ident::Update.number(), refusal.number(), b.core),
     )
 }
 
@@ -135,7 +134,7 @@ fn follow(b: &Box, n: u8) -> Stepped
     ensures { result ≡ carried b.now (taken b.now.profile (state_of b.now) (followed (state_of b.now).partial n)) }
 {
     match open_in(b) {
-        None => outcome::refuse(Refusal::LowByte, b),
+        None => outcome::refuse(Refusal::LowByte.number(), b),
         Some(frame) => {
             let longer = grow(frame, n);
             if longer.len == u16::from(longer.kept) {
@@ -157,11 +156,11 @@ fn arrive(b: &Box, n: u8) -> Stepped
 }
 
 // One byte, where the ring's own tests gave `ring`: 12, what `ring` says, else the byte.
-pub fn take_byte(b: &Box, ring: Result<(), Refusal>, n: u8) -> Stepped
-    ensures { result ≡ step_of b.now (answer ring) (byte n) }
+pub fn take_byte(b: &Box, ring: u8, n: u8) -> Stepped
+    ensures { result ≡ step_of b.now ring (byte n) }
 {
     match outcome::refusal(b, ring) {
-        Ok(()) => arrive(b, n),
-        Err(refusal) => outcome::refuse(refusal, b),
+        DONE => arrive(b, n),
+        answer => outcome::refuse(answer, b),
     }
 }

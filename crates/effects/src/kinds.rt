@@ -8,6 +8,7 @@ ghost use Rattle.effects.specs.Deciding.{late};
 
 use super::{cores, single};
 use commands::idents::Ident;
+use commands::refusals::DONE;
 use commands::{Init, Setting, Single};
 use decided::Decided;
 use record::Box;
@@ -16,8 +17,13 @@ pub fn on_init(b: &Box, v: Init) -> Decided
     ensures { result ≡ by_value (late b.now.profile b.now.clock b.now.core (init v)) }
 {
     match judgement::judge_init(b.profile, v) {
-        Ok(()) => decided::tell(b.clock, Ident::Init, Ok(()), cores::running(v)),
-        Err(refusal) => decided::drop_frame(b.clock, Ident::Init, refusal, &b.core),
+        Ok(()) => decided::tell(b.clock, Ident::Init.number(), DONE, cores::running(v)),
+        Err(refusal) => decided::drop_frame(
+            b.clock,
+            Ident::Init.number(),
+            refusal.number(),
+            &b.core,
+        ),
     }
 }
 
@@ -28,11 +34,16 @@ pub fn on_update(b: &Box, entries: [Setting; 8]) -> Decided
     match judgement::judge_update(b.profile, b.core, settings) {
         Ok(()) => decided::tell(
             b.clock,
-            Ident::Update,
-            Ok(()),
+            Ident::Update.number(),
+            DONE,
             cores::wait(&b.core, settings),
         ),
-        Err(refusal) => decided::drop_frame(b.clock, Ident::Update, refusal, &b.core),
+        Err(refusal) => decided::drop_frame(
+            b.clock,
+            Ident::Update.number(),
+            refusal.number(),
+            &b.core,
+        ),
     }
 }
 
@@ -44,7 +55,7 @@ fn accept_single(b: &Box, v: Single) -> Decided
     if schedule::is_felt(v.width, v.current) {
         return single::tell_pulse(b.clock, held, v);
     }
-    decided::tell(b.clock, Ident::Single, Ok(()), held)
+    decided::tell(b.clock, Ident::Single.number(), DONE, held)
 }
 
 pub fn on_single(b: &Box, v: Single) -> Decided
@@ -53,6 +64,11 @@ pub fn on_single(b: &Box, v: Single) -> Decided
 {
     match judgement::judge_single(b.profile, b.core, v) {
         Ok(()) => accept_single(b, v),
-        Err(refusal) => decided::drop_frame(b.clock, Ident::Single, refusal, &b.core),
+        Err(refusal) => decided::drop_frame(
+            b.clock,
+            Ident::Single.number(),
+            refusal.number(),
+            &b.core,
+        ),
     }
 }

@@ -8,7 +8,7 @@ ghost use Rattle.calls.specs.Calls.{call_of};
 ghost use Rattle.calls.specs.Readout.{readout_of, readout_bytes};
 
 use calls::Called;
-use commands::refusals::Refusal;
+use commands::refusals::{self, Refusal};
 use record::Box;
 use trace::{Part, Readout};
 
@@ -16,7 +16,7 @@ use trace::{Part, Readout};
 pub fn byte(b: &Box, buf: &mut [u8], at: Part, n: u8) -> Called
     ensures { (result ≡ (call_of b.now buf.old at (byte n)).called) × (buf.new ≡ (call_of b.now buf.old at (byte n)).buf) }
 {
-    let ready = ring::ready(buf, at, b.ring);
+    let ready = refusals::answer(&ring::ready(buf, at, b.ring));
     filing::finish(buf, at, &arrival::take_byte(b, ready, n))
 }
 
@@ -24,7 +24,7 @@ pub fn byte(b: &Box, buf: &mut [u8], at: Part, n: u8) -> Called
 pub fn tick(b: &Box, buf: &mut [u8], at: Part) -> Called
     ensures { (result ≡ (call_of b.now buf.old at tick).called) × (buf.new ≡ (call_of b.now buf.old at tick).buf) }
 {
-    let ready = ring::ready(buf, at, b.ring);
+    let ready = refusals::answer(&ring::ready(buf, at, b.ring));
     filing::finish(buf, at, &ticks::take_tick(b, ready))
 }
 

@@ -4,9 +4,6 @@ use mathlib.Core.Bool.{Bool, true, false, cond}
 use mathlib.Core.Path.{◌≡◌, refl, sym, ◌∙◌}
 use native.Mathlib.Omega.{arith}
 use borrow.Author.Tests.{eq-eqb, ne_eqb}
-use Rattle.commands.specs.declared.refusals.Refusal.{Refusal}
-use Rattle.commands.specs.Refusals.{number}
-use Rattle.commands.proofs.Numbers.{refused}
 use Rattle.model.specs.Machine.{Call, step}
 use Rattle.record.specs.declared.Box.{Box}
 use Rattle.record.specs.Box.{state_of, good_box}
@@ -26,6 +23,7 @@ module _ (b : Box) (ring : ℕ) where
   unfolding step_of
   call_taken c h e = h ∙ rw (← e)
 
-  pub call_refused : (c : Call) (r : Refusal) {t : Stepped} → t ≡ refused_step (number r) b → number r ≡ refusal b ring → t ≡ step_of b ring c
+  -- any number that is refused with is told
+  pub call_refused : (c : Call) {a : ℕ} {t : Stepped} → t ≡ refused_step a b → a ≡ refusal b ring → (a ≡ 0 → ⊥) → t ≡ step_of b ring c
   unfolding step_of
-  call_refused c r h e = h ∙ rw (← e, ne_eqb (number r) 0 (refused r))
+  call_refused c h e n = h ∙ rw (← e, ne_eqb _ 0 n)

@@ -3,7 +3,6 @@
 #![tactic(auto)]
 
 ghost use Rattle.std.specs.Prelude.{◌≡◌};
-ghost use Rattle.commands.specs.Refusals.{number, answer};
 ghost use Rattle.outcome.specs.Step.{refusal, refused_step};
 
 use commands::refusals::Refusal;
@@ -19,22 +18,22 @@ pub struct Stepped {
 }
 
 // A refusal leaves all.
-pub fn refuse(refusal: Refusal, b: &Box) -> Stepped
-    ensures { result ≡ refused_step (number refusal) b.now }
+pub fn refuse(answer: u8, b: &Box) -> Stepped
+    ensures { result ≡ refused_step answer b.now }
 {
     Stepped {
-        said: said::say(refusal.number(), 0),
+        said: said::say(answer, 0),
         records: Records::Empty,
         next: *b,
     }
 }
 
 // 12 for a box record that is not good, else what the ring's own tests gave.
-pub fn refusal(b: &Box, ring: Result<(), Refusal>) -> Result<(), Refusal>
-    ensures { answer result ≡ refusal b.now (answer ring) }
+pub fn refusal(b: &Box, ring: u8) -> u8
+    ensures { result ≡ refusal b.now ring }
 {
     if record::good_box(b) {
         return ring;
     }
-    Err(Refusal::BoxNotGood)
+    Refusal::BoxNotGood.number()
 }

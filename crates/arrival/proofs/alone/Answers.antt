@@ -18,4 +18,4 @@ returns c =
       | then-b-ge-TRIPPED w ↦ tripped_answer x.core.state (number told.refusal) w.if-b-ge-TRIPPED.true (rw w.refusal-is)
       | else-b-ge-TRIPPED w ↦ untripped_answer x.core.state (number told.refusal) w.if-b-ge-TRIPPED.false (rw w.refusal-is)
     ] in
-    c.settle.ensures ∙ rw (c.tell.ensures, answer) (settled_as x 1 _ (record { core = x.core; records = [] }))
+    c.settle.ensures ∙ rw (c.tell.ensures, c.number.ensures, c.number-2.ensures, answer) (settled_as x 1 _ (record { core = x.core; records = [] }))

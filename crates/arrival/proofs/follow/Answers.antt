@@ -12,7 +12,7 @@ unfolding state_of
 returns-in-None c =
     let b = c.args.b.now in
     let sized : length b.partial.bytes ≡ 25 = search rules in
-    c.refuse.ensures ∙ strays b sized c.requires.0 c.args.n (none_found b.partial c.in-None.ensures)
+    c.refuse.ensures ∙ rw c.number.ensures (strays b sized c.requires.0 c.args.n (none_found b.partial c.in-None.ensures))
 
 pub grow-longer-requires : goal.grow-longer-requires
 grow-longer-requires c =

@@ -8,4 +8,4 @@ returns-then-is_felt c = simp (sym c.is_felt.ensures ∙ c.if-is_felt.true) (c.t
 
 pub returns : goal.returns
 unfolding accept
-returns c = simp (sym c.is_felt.ensures ∙ c.if-is_felt.false) (c.tell.ensures ∙ rw c.hold-held.ensures)
+returns c = simp (sym c.is_felt.ensures ∙ c.if-is_felt.false) (c.tell.ensures ∙ rw (c.number.ensures, c.hold-held.ensures))

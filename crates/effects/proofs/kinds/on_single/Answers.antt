@@ -10,4 +10,5 @@ returns-in-Ok c =
 pub returns-in-Err : goal.returns-in-Err
 returns-in-Err c =
     let b = c.args.b.now in
-    not_carried b.profile b.clock b.core (single c.args.v) _ (single_tests b.profile b.clock b.core c.args.v c.in-Err.ensures) c.drop_frame.ensures
+    let dropped = rw (c.number.ensures, c.number-in-Err.ensures) at c.drop_frame.ensures in
+    not_carried b.profile b.clock b.core (single c.args.v) _ (single_tests b.profile b.clock b.core c.args.v c.in-Err.ensures) dropped
