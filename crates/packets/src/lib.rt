@@ -58,7 +58,6 @@ pub trait Protocol<const MOST: usize> {
         ensures { result ≡ generation.check_right body.now };
 
     fn length_right(body: &[u8]) -> bool
-        requires { generation.check_right body.now ≡ true }
         ensures { result ≡ generation.length_right body.now };
 
     // What a content means, where it is good.

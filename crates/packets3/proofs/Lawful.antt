@@ -54,6 +54,15 @@ last_false true true false = refl
 last_false true false c = refl
 last_false false b c = refl
 
+-- without four bytes a length is not said: the one that is not there is 0
+pub length_short : (b : List ℕ) → length b < 4 → false ≡ length_right b
+unfolding length_right says
+length_short [] h = refl
+length_short (a ∷ []) h = sym (last_false (eqb a stuffing_byte) true true)
+length_short (a ∷ b ∷ []) h = sym (last_false (eqb a stuffing_byte) (eqb b stuffing_key) true)
+length_short (a ∷ b ∷ c ∷ []) h = sym (last_false (eqb a stuffing_byte) (eqb b stuffing_key) (eqb c stuffing_byte))
+length_short (a ∷ b ∷ c ∷ d ∷ rest) h = absurd (omega arith)
+
 module _ (body : List ℕ) where
   pub check_short : length body < 8 → false ≡ check_right body
   unfolding check_right says crc

@@ -62,6 +62,9 @@ impl Protocol<1190> for Rehamove3 {
 
     fn length_right(body: &[u8]) -> bool {
         let n = body.len();
+        if n < 4 {
+            return false;
+        }
         if LONGEST < n {
             return false;
         }
