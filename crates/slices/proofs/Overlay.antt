@@ -1,5 +1,5 @@
 -- The laws of bytes put to the start of an output. Assumes nothing.
-use mathlib.Core.Path.{◌≡◌, refl, sym, ◌∙◌}
+use mathlib.Core.Path.{◌≡◌, refl, sym, ap, ◌∙◌}
 use mathlib.Core.Bool.{Bool, true, false}
 use mathlib.Core.Logic.{⊎_elim}
 use mathlib.Core.List.{List, [], ◌∷◌, ◌++◌, append-nil}
@@ -16,20 +16,6 @@ use Rattle.slices.specs.Overlay.{overlay}
 pub overlay_fits : (bytes out : List ℕ) → length bytes ≤ length out → overlay bytes out ≡ bytes ++ drop (length bytes) out
 unfolding overlay
 overlay_fits bytes out h = rw (take_all (length out) bytes h)
-
--- as many as there are bytes and room
-pub overlay_least : (bytes out : List ℕ) → take (min (length bytes) (length out)) bytes ++ drop (min (length bytes) (length out)) out ≡ overlay bytes out
-unfolding overlay
-overlay_least bytes out = ⊎_elim less more (cases_lt (length bytes) (length out))
-  where
-    ends : (i : ℕ) → length out ≤ i → drop i out ≡ []
-    ends i h = drop_of_length-le out h
-
-    less : length bytes < length out → take (min (length bytes) (length out)) bytes ++ drop (min (length bytes) (length out)) out ≡ take (length out) bytes ++ drop (length bytes) out
-    less h = let e : min (length bytes) (length out) ≡ length bytes = omega arith in rw (e, take_all (length bytes) bytes (omega arith), take_all (length out) bytes (omega arith))
-
-    more : length out ≤ length bytes → take (min (length bytes) (length out)) bytes ++ drop (min (length bytes) (length out)) out ≡ take (length out) bytes ++ drop (length bytes) out
-    more h = let e : min (length bytes) (length out) ≡ length out = omega arith in rw (e, ends (length out) (omega arith), ends (length bytes) h)
 
 -- ---- an output of which a part is put: out as it stands up to place to, and bytes from there on
 abbrev pub from : ℕ → List ℕ → List ℕ → List ℕ
@@ -60,3 +46,13 @@ from_on to v bytes out = by (ltb to (length out)) refl
     by : (t : Bool) → ltb to (length out) ≡ t → from (to + 1) bytes (set out to v) ≡ from to (v ∷ bytes) out
     by true e = within (ltb-true to (length out) e)
     by false e = past (ltb-false to (length out) e)
+
+-- as many were put as there are bytes or room
+pub from_past : (to : ℕ) (bytes out : List ℕ) → min (length bytes) (length out) ≤ to → from to (drop to bytes) out ≡ out
+from_past to bytes out h = ⊎_elim none full (cases_lt (length bytes) (length out))
+  where
+    none : length bytes < length out → from to (drop to bytes) out ≡ out
+    none l = ap (λ (b : List ℕ). from to b out) (drop_of_length-le bytes (omega arith)) ∙ from_end to out
+
+    full : length out ≤ length bytes → from to (drop to bytes) out ≡ out
+    full l = from_full to (drop to bytes) out (omega arith)

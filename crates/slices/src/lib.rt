@@ -13,13 +13,14 @@ pub fn byte_at(p: &[u8], i: usize) -> u8
     p.get(i).copied().unwrap_or(0)
 }
 
-// Puts bytes to the start of out, as far as it has room.
-#[tactic(auto, using(crate::proofs::Overlay::overlay_least))]
+// Puts bytes to the start of out, as far as it has room. By index: the library's copy would have a `memmove` linked from outside.
 pub fn copy(out: &mut [u8], bytes: &[u8])
     ensures { out.new ≡ overlay bytes.now out.old }
 {
     let n = bytes.len().min(out.len());
-    out[..n].copy_from_slice(&bytes[..n]);
+    for i in 0..n {
+        out[i] = bytes[i];
+    }
 }
 
 // Whether s begins with these bytes.
