@@ -2,6 +2,7 @@
 // copied, and what its step gave stands behind two spaces below it.
 #![tactic(auto)]
 
+mod input;
 mod numbers;
 mod player;
 mod step;
@@ -10,16 +11,13 @@ mod within;
 
 use player::Player;
 use std::io;
-use std::io::Read;
 
-// A script has at most 65,536 bytes: what stands behind them is not read.
-const LONGEST: u64 = 65536;
-
+// A script has at most 65,536 bytes: what stands behind them is not read. They stand in fixed memory.
 fn main(rt: HostRuntime) -> io::Result<()> {
-    let mut script = Vec::new(rt.alloc());
-    rt.reader().take(LONGEST).read_to_end(&mut script)?;
+    let mut script = [0; 65536];
+    let n = input::read_full(&rt, &mut script)?;
     let mut player = Player::new();
-    for line in script.as_slice().split_inclusive(|c| *c == b'\n') {
+    for line in script[..n].split_inclusive(|c| *c == b'\n') {
         player.play(&rt, line.strip_suffix(b"\n").unwrap_or(line))?;
     }
     Ok(())
