@@ -8,11 +8,12 @@ ghost use Rattle.model.specs.Profiles.{good_limits, good_profile, over_at, over_
 use commands::Setting;
 use model::Profile;
 
-// The limits of all channels.
+// The limits of all channels. Tests are joined by `&` and `|`, without leaving early, as each tick makes them.
 fn good_limits(p: Profile) -> bool
     ensures { result ≡ all_below 8 (good_limits p) }
 {
-    p.currents.iter().all(|x| *x <= 127) & p.widths.iter().all(|x| *x <= 500)
+    p.currents.iter().fold(true, |good, x| good & (*x <= 127))
+        & p.widths.iter().fold(true, |good, x| good & (*x <= 500))
 }
 
 // Whether each number of a profile is in its range.
@@ -40,5 +41,8 @@ fn over_at(p: Profile, i: usize, x: Setting) -> bool
 pub fn over_limits(p: Profile, settings: [Setting; 8]) -> bool
     ensures { result ≡ over_limits p settings }
 {
-    settings.iter().enumerate().any(|(i, x)| over_at(p, i, *x))
+    settings
+        .iter()
+        .enumerate()
+        .fold(false, |over, (i, x)| over | over_at(p, i, *x))
 }

@@ -78,6 +78,31 @@ all_items {A} d test xs k l = rw (← l) (on xs) where
   on [] = refl
   on (x ∷ xs) = rw (all_front (length xs) (λ i. test (get_or (x ∷ xs) i d)), on xs)
 
+-- tests joined from the first element on, without leaving early
+pub fold_all : {A : Type 0} (test : A → Bool) (xs : List A) → fold (λ b x. b && test x) true xs ≡ list_all test xs
+fold_all {A} test xs = on true xs where
+  ends : (b : Bool) → b ≡ b && true
+  ends true = refl
+  ends false = refl
+
+  on : (b : Bool) (xs : List A) → fold (λ b x. b && test x) b xs ≡ b && list_all test xs
+  on b [] = ends b
+  on b (x ∷ xs) = on (b && test x) xs ∙ sym (first_and b (test x) (list_all test xs))
+
+pub fold_some : {A : Type 0} (test : A → Bool) (xs : List A) → fold (λ b x. b || test x) false xs ≡ list_any test xs
+fold_some {A} test xs = on false xs where
+  ends : (b : Bool) → b ≡ b || false
+  ends true = refl
+  ends false = refl
+
+  first : (a b c : Bool) → a || b || c ≡ a || (b || c)
+  first true b c = refl
+  first false b c = refl
+
+  on : (b : Bool) (xs : List A) → fold (λ b x. b || test x) b xs ≡ b || list_any test xs
+  on b [] = ends b
+  on b (x ∷ xs) = on (b || test x) xs ∙ first b (test x) (list_any test xs)
+
 -- two tests at each number: the one at all, and the other at all
 pub all_both : (n : ℕ) (f g : ℕ → Bool) → all_below n (λ i. f i && g i) ≡ all_below n f && all_below n g
 all_both zero f g = refl

@@ -19,10 +19,13 @@ fn good_list(v: Init) -> bool
     commands::good_init(v)
 }
 
+// Tests are joined by `&` here, without leaving early and without `==` on a whole run: with those each tick took more instructions.
 fn all_zero(settings: [Setting; 8]) -> bool
     ensures { result ≡ all_zero settings }
 {
-    settings == model::SILENCE
+    settings
+        .iter()
+        .fold(true, |zero, x| zero & commands::is_zero(*x))
 }
 
 // Good, and zero where the channel is not listed.
@@ -38,7 +41,7 @@ fn all_good(stim: u8, settings: [Setting; 8]) -> bool
     settings
         .iter()
         .enumerate()
-        .all(|(i, x)| good_at(stim, i, *x))
+        .fold(true, |good, (i, x)| good & good_at(stim, i, *x))
 }
 
 fn fit(p: Profile, v: Init, settings: [Setting; 8]) -> bool
@@ -78,7 +81,13 @@ fn good_run(p: Profile, clock: u32, r: Run) -> bool
 fn zero_run(r: Run) -> bool
     ensures { result ≡ zero_run r }
 {
-    r == model::STILL
+    (r.list == commands::NO_INIT)
+        & all_zero(r.settings)
+        & (r.waits == 0)
+        & all_zero(r.waiting)
+        & (r.position == 0)
+        & (r.cycle == 0)
+        & (r.watch == 0)
 }
 
 fn good_by_state(p: Profile, clock: u32, m: Core) -> bool
