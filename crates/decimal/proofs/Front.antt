@@ -1,24 +1,27 @@
 -- Laws of a number in front of other bytes. Assumes nothing.
-use Prim.Native.Nat.{ℕ, ◌+◌, ◌≤◌}
+use Prim.Native.Nat.{ℕ, zero, suc, ◌+◌, ◌≤◌, ◌<◌, min}
 use mathlib.Core.Bool.{Bool, true, false}
+use mathlib.Core.Logic.{⊎_elim}
 use mathlib.Core.Path.{◌≡◌, refl, sym, ap, ◌∙◌}
 use mathlib.Core.List.{List, [], ◌∷◌, ◌++◌}
 use mathlib.Core.Option.{Option as Maybe, none, some}
 use Rattle.std.specs.Prelude.{Option, Some, None, position, unwrap_or, nat_lt, not, cond}
 use lib.Seq.{take_all}
 use Rattle.std.proofs.lemmas.Option.{none-some, same_Some}
+use Rattle.std.proofs.lemmas.List.{length-take-le}
 use native.Mathlib.Numerals.{one-add}
 use native.Mathlib.Omega.{arith}
-use borrow.Author.Tests.{le-leb, leb-true, ltb-false}
+use borrow.Author.Tests.{le-leb, lt-leb, leb-true, ltb-false}
 use lib.Dec.{leb}
 use Rattle.std.specs.List.{position_or_len}
 use Rattle.std.specs.Char.{is_ascii_digit}
 use lib.ListN.{length, take, drop, length-append}
 use Rattle.commands.proofs.Tests.{both}
+use Rattle.commands.proofs.Order.{lt_or_ge}
 use Rattle.decimal.specs.declared.Number.{Number}
 use Rattle.decimal.specs.Decimal.{digits, is_digit, all_digits, number_in}
 use Rattle.decimal.specs.Front.{front, largest, as_number, number_in_front}
-use Rattle.decimal.proofs.Digits.{digits_all}
+use Rattle.decimal.proofs.Digits.{digits_all, ten_at_most}
 use Rattle.decimal.proofs.Theorems.{reads_written, writes_read}
 
 -- no digit in front
@@ -76,6 +79,41 @@ cut (b ∷ s) = cut_more b s (is_digit b) refl (cut s)
 
 pub front_within : (s : List ℕ) → length (front s) ≤ length s
 front_within s = omega (arith, simp length-append at (ap length (cut s).joined))
+
+-- ---- a number of 32 bits has ten digits at most, so the first eleven bytes tell it
+
+front_take : (n : ℕ) (s : List ℕ) → front (take n s) ≡ take n (front s)
+unfolding front
+front_take zero s = refl
+front_take (suc n) [] = refl
+front_take (suc n) (b ∷ s) = by (is_digit b) (front_take n s)
+  where
+    by : (t : Bool) → front (take n s) ≡ take n (front s) → cond t (b ∷ front (take n s)) [] ≡ take (suc n) (cond t (b ∷ front s) [])
+    by true h = ap (λ (l : List ℕ). b ∷ l) h
+    by false h = refl
+
+too_many : (t : List ℕ) (k : ℕ) → 10 < length t → as_number (number_in t) k ≡ None
+too_many t k h = by (number_in t) refl
+  where
+    by : (o : Maybe ℕ) → number_in t ≡ o → as_number o k ≡ None
+    by none i = refl
+    by (some v) i =
+        let d = ap length (writes_read t v i) in
+        let g : largest < v = ⊎_elim (λ (l : v < 4294967296). absurd (omega (arith, ten_at_most v l))) (λ (l : 4294967296 ≤ v). omega arith) (lt_or_ge v 4294967296) in
+        rw (lt-leb v largest g)
+
+pub near : (s : List ℕ) (n : ℕ) → n ≡ min (length s) 11 → number_in_front (take n s) ≡ number_in_front s
+unfolding number_in_front
+near s n e = ⊎_elim more few (lt_or_ge n (length (front s)))
+  where
+    few : length (front s) ≤ n → as_number (number_in (front (take n s))) (length (front (take n s))) ≡ as_number (number_in (front s)) (length (front s))
+    few h = rw (front_take n s, take_all n (front s) h)
+
+    more : n < length (front s) → as_number (number_in (front (take n s))) (length (front (take n s))) ≡ as_number (number_in (front s)) (length (front s))
+    more h =
+        let w = front_within s in
+        let l : length (take n (front s)) ≡ n = length-take-le n (front s) (omega arith) in
+        rw (front_take n s) (too_many _ _ (omega (arith, l)) ∙ sym (too_many _ _ (omega arith)))
 
 -- ---- a number that was written, before what is no digit
 

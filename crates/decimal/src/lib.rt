@@ -13,6 +13,9 @@ pub struct Number {
     pub size: usize,
 }
 
+// The digits of a number of 32 bits, at most.
+const MOST_DIGITS: usize = 10;
+
 // How many digits a number has, ten at most.
 pub fn count(n: u32) -> usize
     ensures { (result ≡ length (digits n)) × (result ≤ 10) }
@@ -70,7 +73,8 @@ fn value(digits: &[u8]) -> Option<u32>
 pub fn read(s: &[u8]) -> Option<Number>
     ensures { result ≡ number_in_front s.now }
 {
-    let digits = digits_in_front(s);
+    // One digit more shows that they are no number's, however many follow.
+    let digits = digits_in_front(&s[..s.len().min(MOST_DIGITS + 1)]);
     match digits {
         [] | [b'0', _, ..] => None,
         _ => Some(Number {
