@@ -8,7 +8,7 @@ use Rattle.reader2.specs.declared.Read.{Read}
 use Rattle.packet_readers.specs.declared.packet.Values.{Values}
 use Rattle.packet_readers.specs.declared.packet.ReadPacket.{ReadPacket}
 use Rattle.packet_readers.specs.declared.packet.ReadEmpty.{ReadEmpty}
-use Rattle.packet_readers.specs.declared.result.ReadResult.{ReadResult}
+use Rattle.packet_readers.specs.declared.packet.ReadResult.{ReadResult}
 use Rattle.packet_readers.specs.declared.init.ReadVersion.{ReadVersion}
 use Rattle.packet_readers.specs.declared.unknown_command.ReadEcho.{ReadEcho}
 use Rattle.packet_readers.specs.declared.get_stimulation_mode.ReadMode.{ReadMode}

@@ -5,7 +5,7 @@ ghost use Rattle.packets2.specs.Rehastim2.{rehastim2};
 ghost use Rattle.reader2.specs.Reader.{read_packet};
 ghost use Rattle.packet_readers.specs.Reports.{as_packet, as_list, as_result};
 
-use crate::result::ReadResult;
+use crate::packet::ReadResult;
 use crate::{packet, result};
 use commands2::numbers;
 

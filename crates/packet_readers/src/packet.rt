@@ -50,6 +50,18 @@ pub struct ReadEmpty {
     pub size: u16,
 }
 
+// What the readers of acknowledgements with a result alone hand back.
+#[repr(C)]
+#[derive(Clone, Copy)]
+pub struct ReadResult {
+    pub used: usize,
+    pub answer: u16,
+    pub packet: u16,
+    pub command: u16,
+    pub size: u8,
+    pub result: i8,
+}
+
 const NO_VALUES: Values = Values {
     version: 0,
     echo: 0,

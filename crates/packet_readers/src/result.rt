@@ -2,19 +2,7 @@
 ghost use Rattle.std.specs.Prelude.{◌≡◌};
 ghost use Rattle.packet_readers.specs.Reports.{result_for, as_result};
 
-use crate::packet::ReadPacket;
-
-// What the readers of acknowledgements with a result alone hand back.
-#[repr(C)]
-#[derive(Clone, Copy)]
-pub struct ReadResult {
-    pub used: usize,
-    pub answer: u16,
-    pub packet: u16,
-    pub command: u16,
-    pub size: u8,
-    pub result: i8,
-}
+use crate::packet::{ReadPacket, ReadResult};
 
 // The result, if the command has this number. The RehaMove3's is another: C gives result and command other types there.
 #[tactic(auto, unfolding(crate::specs::Reports::result_for))]
