@@ -10,6 +10,7 @@ use lib.ListN.{length, take, drop, get_or}
 use lib.Seq.{take-suc, take-nil}
 use lib.Dec.{leb, eqb}
 use Rattle.std.specs.List.{fold}
+use Rattle.std.proofs.Math.Bool.{and-true, and_assoc}
 use Rattle.std.specs.Prelude.{cond, Some, None}
 use lib.IntN.{ℤ, pos, nat_abs, ◌+ℤ◌, ◌-ℤ◌, +ℤ_assoc, +ℤ_idl, +ℤ_idr}
 use borrow.Author.Tests.{leb-true, le-leb, eqb-true}
@@ -88,17 +89,9 @@ weighed_bad p e = by (point_good p) refl e
 pub all_joined : (test : Point → Bool) (l : List Point) → fold (λ b p. b && test p) true l ≡ all test l
 unfolding all
 all_joined test l = on true l where
-  ends : (b : Bool) → b ≡ b && true
-  ends true = refl
-  ends false = refl
-
-  first : (a b c : Bool) → a && b && c ≡ a && (b && c)
-  first true b c = refl
-  first false b c = refl
-
   on : (b : Bool) (l : List Point) → fold (λ b p. b && test p) b l ≡ b && all test l
-  on b [] = ends b
-  on b (p ∷ l) = on (b && test p) l ∙ first b (test p) (all test l)
+  on b [] = sym (and-true b)
+  on b (p ∷ l) = on (b && test p) l ∙ and_assoc b (test p) (all test l)
 
 module _ (test : Point → Bool) where
   pub all_at : (l : List Point) (i : ℕ) (d : Point) → i < length l → all test l ≡ true → test (get_or l i d) ≡ true

@@ -7,6 +7,7 @@ use native.Mathlib.Omega.{arith}
 use lib.ListN.{length, get_or}
 use Rattle.std.specs.List.{list_all, list_any, enumerate_from, filter, fold, reduce, range_with_len}
 use Rattle.std.specs.Option.{unwrap_or}
+use Rattle.std.proofs.Math.Bool.{and-true, and_assoc, or-false, or_assoc}
 use Rattle.model.specs.Below.{all_below, some_below, most_below}
 use Rattle.model.specs.Channels.{in_set, many}
 use Rattle.model.proofs.Tests.{crossed}
@@ -81,27 +82,15 @@ all_items {A} d test xs k l = rw (← l) (on xs) where
 -- tests joined from the first element on, without leaving early
 pub fold_all : {A : Type 0} (test : A → Bool) (xs : List A) → fold (λ b x. b && test x) true xs ≡ list_all test xs
 fold_all {A} test xs = on true xs where
-  ends : (b : Bool) → b ≡ b && true
-  ends true = refl
-  ends false = refl
-
   on : (b : Bool) (xs : List A) → fold (λ b x. b && test x) b xs ≡ b && list_all test xs
-  on b [] = ends b
-  on b (x ∷ xs) = on (b && test x) xs ∙ sym (first_and b (test x) (list_all test xs))
+  on b [] = sym (and-true b)
+  on b (x ∷ xs) = on (b && test x) xs ∙ and_assoc b (test x) (list_all test xs)
 
 pub fold_some : {A : Type 0} (test : A → Bool) (xs : List A) → fold (λ b x. b || test x) false xs ≡ list_any test xs
 fold_some {A} test xs = on false xs where
-  ends : (b : Bool) → b ≡ b || false
-  ends true = refl
-  ends false = refl
-
-  first : (a b c : Bool) → a || b || c ≡ a || (b || c)
-  first true b c = refl
-  first false b c = refl
-
   on : (b : Bool) (xs : List A) → fold (λ b x. b || test x) b xs ≡ b || list_any test xs
-  on b [] = ends b
-  on b (x ∷ xs) = on (b || test x) xs ∙ first b (test x) (list_any test xs)
+  on b [] = sym (or-false b)
+  on b (x ∷ xs) = on (b || test x) xs ∙ or_assoc b (test x) (list_any test xs)
 
 -- two tests at each number: the one at all, and the other at all
 pub all_both : (n : ℕ) (f g : ℕ → Bool) → all_below n (λ i. f i && g i) ≡ all_below n f && all_below n g

@@ -1,4 +1,3 @@
 pub mod Fits
-pub mod Silence
 pub mod Waits
 pub mod Parts
