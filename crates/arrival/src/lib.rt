@@ -155,7 +155,7 @@ fn arrive(b: &Box, n: u8) -> Stepped
     follow(b, n)
 }
 
-// One byte, where the ring's own tests gave `ring`: 12, what `ring` says, else the byte.
+// One byte, where the ring's own tests gave `ring`, which may be any number: 12, what `ring` says, else the byte.
 pub fn take_byte(b: &Box, ring: u8, n: u8) -> Stepped
     ensures { result ≡ step_of b.now ring (byte n) }
 {

@@ -17,7 +17,7 @@ pub struct Stepped {
     pub next: Box,
 }
 
-// A refusal leaves all.
+// A refusal leaves all. Its answer is a number, and may be any: a type of fewer values would ask more of callers.
 pub fn refuse(answer: u8, b: &Box) -> Stepped
     ensures { result ≡ refused_step answer b.now }
 {
@@ -28,7 +28,7 @@ pub fn refuse(answer: u8, b: &Box) -> Stepped
     }
 }
 
-// 12 for a box record that is not good, else what the ring's own tests gave.
+// 12 for a box record that is not good, else what the ring's own tests gave, which may be any number too.
 pub fn refusal(b: &Box, ring: u8) -> u8
     ensures { result ≡ refusal b.now ring }
 {
